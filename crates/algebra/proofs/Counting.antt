@@ -1,0 +1,29 @@
+-- Laws of counting: n numbers from i on are n, within their bounds, and nothing stands twice.
+use Prim.Native.Nat.{ℕ, zero, suc, _+_, _≤_, _<_}
+use mathlib.Core.Path.{_≡_, refl, ap}
+use mathlib.Core.Logic.{_≢_}
+use native.Mathlib.Omega.{arith}
+use lib.ListN.{length}
+use Rattle.algebra.specs.Lists.{Each, end, _&_, Distinct, empty, new, countFrom}
+use Rattle.algebra.proofs.Lists.{each-imp}
+
+pub count-within : (i n : ℕ) → Each (λ j. (i ≤ j) × (j < i + n)) (countFrom i n)
+count-within i zero = end
+count-within i (suc n) = here & each-imp later (count-within (suc i) n)
+  where
+    here : (i ≤ i) × (i < i + suc n)
+    here = omega arith
+
+    later : (j : ℕ) → (suc i ≤ j) × (j < suc i + n) → (i ≤ j) × (j < i + suc n)
+    later j h = omega arith
+
+pub count-distinct : (i n : ℕ) → Distinct (countFrom i n)
+count-distinct i zero = empty
+count-distinct i (suc n) = new (each-imp behind (count-within (suc i) n)) (count-distinct (suc i) n)
+  where
+    behind : (j : ℕ) → (suc i ≤ j) × (j < suc i + n) → i ≢ j
+    behind j h = omega arith
+
+pub count-length : (i n : ℕ) → length (countFrom i n) ≡ n
+count-length i zero = refl
+count-length i (suc n) = ap suc (count-length (suc i) n)

@@ -1,0 +1,9 @@
+pub mod Integers
+pub mod Solve
+pub mod Order
+pub mod Equal
+pub mod Lists
+pub mod Counting
+pub mod Sums
+pub mod Rings
+pub mod Examples

@@ -1,0 +1,1 @@
+// Laws of whole numbers, sums, lists and rings. It has no code.

@@ -1,0 +1,81 @@
+-- For each entry one function from what is lent to everything that comes back: the number, the count or answer, and every lent element afterwards.
+-- A refusal reports a count of zero, or "no", and changes no lent element.
+use Prim.Native.Nat.{ℕ, zero, suc}
+use mathlib.Core.Bool.{Bool, false}
+use mathlib.Core.List.{List, [], map}
+use lib.ListN.{length}
+use lib.Ieee.{Float}
+use Rattle.algebra.specs.Rings.{Corner, ringOf}
+use Rattle.rules.specs.Plane.{Pt}
+use Rattle.rules.specs.Grid.{pointOf, pointsOf}
+use Rattle.rules.specs.Crossing.{inside, insideConvex}
+use Rattle.rules.specs.Cut.{Cut, stuck, done, cut}
+use Rattle.rules.specs.Merge.{merge}
+use Rattle.rules.specs.Layout.{flatten, triples, over}
+use Rattle.rules.specs.Refusals.{firstRefusal, cutterChecks, mergerChecks, pointTestChecks}
+
+-- what is answered where no refusal applies, and what is refused by a number otherwise
+abbrev pub unless : {R : Type 0} → ℕ → (ℕ → R) → R → R
+unless zero refused answered = answered
+unless (suc n) refused answered = refused (suc n)
+
+-- ---- the cutter
+
+pub record Cutting : Type 0 where
+  pub number : ℕ
+  -- of triangles
+  pub count : ℕ
+  pub indices : List ℕ
+
+abbrev pub trianglesOf : Cut → List (Corner ℕ)
+trianglesOf stuck = []
+trianglesOf (done ts) = ts
+
+-- the triangles of an outline, three indices each
+unfoldable pub trianglesFor : List Pt → List (List ℕ)
+unfolding cut
+trianglesFor ps = map ringOf (trianglesOf (cut ps))
+
+unfoldable pub cutter : List Float → List ℕ → Cutting
+unfolding firstRefusal cutterChecks trianglesFor flatten
+cutter cs indices =
+    let triangles = trianglesFor (pointsOf cs) in
+    unless (firstRefusal (cutterChecks cs (length indices)))
+    (λ n. record { number = n; count = 0; indices = indices })
+    (record { number = 0; count = length triangles; indices = over (flatten triangles) indices })
+
+-- ---- the merger
+
+pub record Merging : Type 0 where
+  pub number : ℕ
+  -- of pieces
+  pub count : ℕ
+  pub indices : List ℕ
+  pub lengths : List ℕ
+
+unfoldable pub merger : List Float → List ℕ → List ℕ → List ℕ → Merging
+unfolding firstRefusal mergerChecks merge triples flatten
+merger cs triangles indices lengths =
+    let pieces = merge (pointsOf cs) (triples triangles) in
+    unless (firstRefusal (mergerChecks cs triangles (length indices) (length lengths)))
+    (λ n. record { number = n; count = 0; indices = indices; lengths = lengths })
+    (record { number = 0; count = length pieces; indices = over (flatten pieces) indices; lengths = over (map length pieces) lengths })
+
+-- ---- the point tests
+
+pub record Asking : Type 0 where
+  pub number : ℕ
+  pub answer : Bool
+
+unfoldable pub asking : (Pt → List Pt → Bool) → Float → Float → List Float → Asking
+unfolding firstRefusal pointTestChecks
+asking test x y cs =
+    unless (firstRefusal (pointTestChecks x y cs))
+    (λ n. record { number = n; answer = false })
+    (record { number = 0; answer = test (pointOf x y) (pointsOf cs) })
+
+abbrev pub pointInPoly2d : Float → Float → List Float → Asking
+pointInPoly2d = asking inside
+
+abbrev pub pointInConvexPoly2d : Float → Float → List Float → Asking
+pointInConvexPoly2d = asking insideConvex

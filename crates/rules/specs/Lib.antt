@@ -1,0 +1,12 @@
+pub mod Plane
+pub mod Grid
+pub mod Crossing
+pub mod Root
+pub mod Ear
+pub mod Cut
+pub mod Merge
+pub mod Layout
+pub mod Refusals
+pub mod Entries
+pub mod Measure
+pub mod Cases

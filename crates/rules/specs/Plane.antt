@@ -1,0 +1,31 @@
+-- Document 01, "Points and the grid": points, turns, and the triangle test.
+use mathlib.Core.Bool.{Bool, _&&_, _||_, not}
+use lib.IntN.{ℤ, pos, _-ℤ_, _*ℤ_}
+use lib.Signed.{ltZ}
+
+-- a point, or the vector from one point to another
+pub record Pt : Type 0 where
+  pub x : ℤ
+  pub y : ℤ
+
+-- b - a
+abbrev pub minus : Pt → Pt → Pt
+minus b a = record { x = b .x -ℤ a .x; y = b .y -ℤ a .y }
+
+-- u x v is ux*vy - uy*vx
+abbrev pub cross : Pt → Pt → ℤ
+cross u v = u .x *ℤ v .y -ℤ u .y *ℤ v .x
+
+-- (b - a) x (c - a): plus is left, minus is right, zero is straight
+abbrev pub turn : Pt → Pt → Pt → ℤ
+turn a b c = cross (minus b a) (minus c a)
+
+abbrev pub left : Pt → Pt → Pt → Bool
+left a b c = ltZ (pos 0) (turn a b c)
+
+abbrev pub right : Pt → Pt → Pt → Bool
+right a b c = ltZ (turn a b c) (pos 0)
+
+-- p is in the triangle unless its three turns with the sides contain both a left and a right
+abbrev pub inTriangle : Pt → Pt → Pt → Pt → Bool
+inTriangle a b c p = not ((left a b p || left b c p || left c a p) && (right a b p || right b c p || right c a p))
