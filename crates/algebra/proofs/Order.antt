@@ -1,15 +1,15 @@
 -- The order of ℤ. `up` and `dn` carry a fact of integers to one of naturals, which `omega` reads, and back.
-use mathlib.Core.Path.{_≡_, refl, sym, _∙_, ap, subst}
+use mathlib.Core.Path.{_≡_, refl, sym, ap, subst}
 use mathlib.Core.Logic.{_⊎_, inl, inr, _≢_}
 use mathlib.Core.Bool.{Bool, true, false, not, cond}
 use Prim.Native.Nat.{ℕ, zero, suc, _+_, _*_, _-_, _≤_, _<_}
 use native.Mathlib.Omega.{arith}
 use native.Mathlib.Nat.{mul-pos}
-use lib.Dec.{T, ltb, leb, ltb→lt, leb→le, nltb→le, nleb→lt, le→leb, lt→ltb, not-T}
-use lib.IntN.{ℤ, pos, negsuc, negℤ, subℕ, _+ℤ_, _-ℤ_, _*ℤ_, *ℤ-comm, *ℤ-zero, zero-*ℤ, +ℤ-invr}
+use lib.Dec.{T, ltb, ltb→lt, leb→le, nltb→le, nleb→lt, le→leb, lt→ltb, not-T}
+use lib.IntN.{ℤ, pos, negsuc, negℤ, subℕ, _+ℤ_, _-ℤ_, _*ℤ_}
 use lib.Signed.{ltZ, leZ, _≤ℤ_, _<ℤ_, ltZ-no}
 use Rattle.algebra.specs.Parts.{up, dn}
-use Rattle.algebra.proofs.Integers.{*ℤ-sub-l, negℤ-*ℤ, *ℤ-negℤ}
+use Rattle.algebra.proofs.Integers.{*ℤ-sub-l}
 
 -- ---- to the naturals, and back: rules for `omega`
 

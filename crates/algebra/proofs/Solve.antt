@@ -4,10 +4,10 @@ use mathlib.Core.List.{List, [], _∷_}
 use mathlib.Core.Bool.{Bool, true, false, not, cond}
 use Prim.Native.Nat.{ℕ, zero, suc, compare, Ordering, Ordering·lt, Ordering·eq, Ordering·gt}
 use lib.Dec.{T, leb, isEq, eqb→eq}
-use lib.IntN.{ℤ, pos, negsuc, negℤ, _+ℤ_, _-ℤ_, _*ℤ_, +ℤ-idl, +ℤ-idr, +ℤ-assoc, +ℤ-comm, negℤ-+ℤ, zero-*ℤ, *ℤ-zero}
+use lib.IntN.{ℤ, pos, negsuc, negℤ, _+ℤ_, _*ℤ_, +ℤ-idl, +ℤ-idr, +ℤ-assoc, negℤ-+ℤ, zero-*ℤ, *ℤ-zero}
 use Rattle.algebra.specs.Poly.{Expr, var, con, _:+_, _:-_, _:*_, neg, env, ⟦_⟧, Mono, mono, ins, joined, times, after, cmp-vars, cmp, Poly, nil, term, front, place, insert, padd, scale, pmul, pneg, normal, vval, mval, pval}
 use Rattle.algebra.specs.Reify.{Reify, expr, means}
-use Rattle.algebra.proofs.Integers.{+ℤ-left-comm, +ℤ-swap, *ℤ-distr-l, *ℤ-distr-r, *ℤ-assoc, *ℤ-left-comm, *ℤ-swap, negℤ-*ℤ, pos1-*ℤ, *ℤ-pos1}
+use Rattle.algebra.proofs.Integers.{+ℤ-left-comm, *ℤ-distr-l, *ℤ-distr-r, *ℤ-assoc, *ℤ-left-comm, *ℤ-swap, negℤ-*ℤ, pos1-*ℤ, *ℤ-pos1}
 
 -- ---- two monomials that compare equal are equal
 after-eq : (o r : Ordering) → after o r ≡ Ordering·eq → (o ≡ Ordering·eq) × (r ≡ Ordering·eq)

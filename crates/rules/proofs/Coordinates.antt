@@ -1,14 +1,13 @@
 -- A slice of coordinates as points: how many there are, which stands where, and what the grid check says of each coordinate.
 use Prim.Native.Nat.{ℕ, zero, suc, _+_, _*_, _/_, _<_}
 use native.Mathlib.Omega.{arith}
-use mathlib.Core.Path.{_≡_, refl, ap}
-use mathlib.Core.Bool.{Bool, true, false, not}
+use mathlib.Core.Path.{_≡_, refl}
+use mathlib.Core.Bool.{true, false, not}
 use mathlib.Core.List.{List, [], _∷_}
 use lib.ListN.{length, getD}
 use lib.Ieee.{Float, nan}
 use Rattle.algebra.specs.Lists.{any}
 use Rattle.algebra.proofs.Equal.{or-false, not-false}
-use Rattle.rules.specs.Plane.{Pt}
 use Rattle.rules.specs.Grid.{onGrid, pointOf, pointsOf}
 use Rattle.rules.specs.Ear.{point}
 use Rattle.rules.specs.Refusals.{offGrid}

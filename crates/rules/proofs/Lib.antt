@@ -1,1 +1,21 @@
+-- What follows from document 01's rules.
+pub mod Cases
 pub mod Coordinates
+pub mod Turns
+pub mod Convex
+pub mod Squares
+pub mod Scale
+pub mod Floats
+pub mod Root
+pub mod Cuts
+pub mod Ears
+pub mod Neighbours
+pub mod Stuck
+pub mod Merges
+pub mod Pieces
+pub mod Measures
+pub mod Outline
+pub mod Layouts
+pub mod Rows
+pub mod Accepted
+pub mod Results

@@ -1,9 +1,9 @@
 -- For each entry one function from what is lent to everything that comes back: the number, the count or answer, and every lent element afterwards.
 -- A refusal reports a count of zero, or "no", and changes no lent element.
-use Prim.Native.Nat.{ℕ, zero, suc}
+use Prim.Native.Nat.{ℕ, zero, suc, _*_}
 use mathlib.Core.Bool.{Bool, false}
 use mathlib.Core.List.{List, [], map}
-use lib.ListN.{length}
+use lib.ListN.{length, take}
 use lib.Ieee.{Float}
 use Rattle.algebra.specs.Rings.{Corner, ringOf}
 use Rattle.rules.specs.Plane.{Pt}
@@ -11,7 +11,7 @@ use Rattle.rules.specs.Grid.{pointOf, pointsOf}
 use Rattle.rules.specs.Crossing.{inside, insideConvex}
 use Rattle.rules.specs.Cut.{Cut, stuck, done, cut}
 use Rattle.rules.specs.Merge.{merge}
-use Rattle.rules.specs.Layout.{flatten, triples, over}
+use Rattle.rules.specs.Layout.{flatten, split, triples, over}
 use Rattle.rules.specs.Refusals.{firstRefusal, cutterChecks, mergerChecks, pointTestChecks}
 
 -- what is answered where no refusal applies, and what is refused by a number otherwise
@@ -44,6 +44,10 @@ cutter cs indices =
     (λ n. record { number = n; count = 0; indices = indices })
     (record { number = 0; count = length triangles; indices = over (flatten triangles) indices })
 
+-- the triangles that a cut has written, read back
+abbrev pub writtenTriangles : Cutting → List (List ℕ)
+writtenTriangles r = triples (take (3 * r .count) (r .indices))
+
 -- ---- the merger
 
 pub record Merging : Type 0 where
@@ -60,6 +64,10 @@ merger cs triangles indices lengths =
     unless (firstRefusal (mergerChecks cs triangles (length indices) (length lengths)))
     (λ n. record { number = n; count = 0; indices = indices; lengths = lengths })
     (record { number = 0; count = length pieces; indices = over (flatten pieces) indices; lengths = over (map length pieces) lengths })
+
+-- the pieces that a merge has written, read back
+abbrev pub writtenPieces : Merging → List (List ℕ)
+writtenPieces r = split (take (r .count) (r .lengths)) (r .indices)
 
 -- ---- the point tests
 

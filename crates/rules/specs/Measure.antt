@@ -4,7 +4,8 @@ use mathlib.Core.Logic.{_≢_}
 use mathlib.Core.Bool.{false}
 use mathlib.Core.List.{List, map}
 use Prim.Native.Nat.{ℕ}
-use lib.IntN.{ℤ}
+use lib.IntN.{ℤ, pos}
+use lib.Signed.{ltZ}
 use Rattle.algebra.specs.Lists.{Each}
 use Rattle.algebra.specs.Sums.{integers}
 use Rattle.algebra.specs.Rings.{Corner, edges, corners, around}
@@ -22,6 +23,10 @@ area2 ring = around integers cross ring
 -- a corner, or a triangle, that turns left or is straight
 abbrev pub NotRight : List Pt → Corner ℕ → Type 0
 NotRight ps c = turnsRight ps (c .before) (c .at) (c .after) ≡ false
+
+-- a ring whose doubled area isn't below zero
+abbrev pub NotClockwise : List Pt → List ℕ → Type 0
+NotClockwise ps ring = ltZ (area2 (points ps ring)) (pos 0) ≡ false
 
 -- no corner of the ring turns right
 abbrev pub NoneRight : List Pt → List ℕ → Type 0

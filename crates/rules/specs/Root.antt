@@ -2,7 +2,7 @@
 use Prim.Native.Nat.{ℕ, zero, suc, _+_, _-_, _*_, _/_, _^_, _≤_, _<_}
 use mathlib.Core.Bool.{false, cond}
 use lib.Dec.{ltb, leb}
-use lib.IntN.{ℤ, pos, _+ℤ_, _*ℤ_, natAbs}
+use lib.IntN.{pos, _+ℤ_, _*ℤ_, natAbs}
 use lib.Ieee as Ieee
 use lib.Ieee.{Float, fin, binary32, size}
 use Rattle.rules.specs.Plane.{Pt}

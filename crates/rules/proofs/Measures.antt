@@ -1,0 +1,75 @@
+-- Measures of a ring of points: the sum over its edges of a weight that cancels with the reverse edge's. A cut and a merge keep every
+-- measure. Two of them: the crossing parity at a point, and the doubled area.
+use Prim.Native.Nat.{ℕ, _+_}
+use mathlib.Core.Path.{_≡_, refl, sym, _∙_, ap}
+use mathlib.Core.Bool.{Bool}
+use mathlib.Core.List.{List, [], _∷_, _++_, map}
+use lib.IntN.{ℤ}
+use lib.ListN.{length}
+use Rattle.algebra.specs.Lists.{Distinct}
+use Rattle.algebra.specs.Sums.{Sums, total, integers, parities}
+use Rattle.algebra.proofs.Sums.{total-same, xor-self}
+use Rattle.rules.specs.Plane.{Pt, cross}
+use Rattle.algebra.specs.Rings.{Corner, steps, edges, ringOf, around}
+use Rattle.rules.specs.Crossing.{crossed, odd, inside}
+use Rattle.rules.specs.Measure.{points, area2}
+use Rattle.rules.specs.Ear.{point}
+use Rattle.rules.specs.Cut.{done, cutRing}
+use Rattle.rules.specs.Merge.{merge}
+use Rattle.rules.proofs.Turns.{crossed-back, cross-back}
+use Rattle.rules.proofs.Cuts.{triangulation}
+use Rattle.rules.proofs.Pieces.{merging}
+
+pub record Measure (G : Type 0) : Type 0 where
+  pub sums : Sums G
+  pub weight : Pt → Pt → G
+  pub back : (a b : Pt) → sums ._⊕_ (weight a b) (weight b a) ≡ sums .nil
+
+abbrev pub measure : {G : Type 0} → Measure G → List Pt → G
+measure M ring = around (M .sums) (M .weight) ring
+
+abbrev pub crossing-parity : Pt → Measure Bool
+crossing-parity p = record { sums = parities; weight = crossed p; back = λ a b. xor-self (crossed p a b) (crossed p b a) (crossed-back p a b) }
+
+abbrev pub doubled-area : Measure ℤ
+doubled-area = record { sums = integers; weight = cross; back = cross-back }
+
+module _ {G : Type 0} (M : Measure G) (ps : List Pt) where
+  open Measure M using (sums, weight, back)
+  open Sums sums using (_⊕_)
+
+  -- the same on corner numbers
+  abbrev by-number : ℕ → ℕ → G
+  by-number a b = weight (point ps a) (point ps b)
+
+  steps-points : (a : ℕ) (l : List ℕ) (b : ℕ) → total sums (λ e. weight (e .from) (e .to)) (steps (point ps a) (points ps l ++ point ps b ∷ [])) ≡ total sums (λ e. by-number (e .from) (e .to)) (steps a (l ++ b ∷ []))
+  steps-points a [] b = refl
+  steps-points a (x ∷ l) b = ap (λ (z : G). by-number a x ⊕ z) (steps-points x l b)
+
+  measure-points : (ring : List ℕ) → measure M (points ps ring) ≡ around sums by-number ring
+  measure-points [] = refl
+  measure-points (a ∷ l) = steps-points a l a
+
+  -- the total over pieces
+  abbrev pub measures : List (List ℕ) → G
+  measures pieces = total sums (λ t. measure M (points ps t)) pieces
+
+  measures-points : (pieces : List (List ℕ)) → measures pieces ≡ total sums (around sums by-number) pieces
+  measures-points = total-same sums (λ t. measure M (points ps t)) (around sums by-number) measure-points
+
+  pub cut-keeps : (k : ℕ) (ring : List ℕ) (ts : List (Corner ℕ)) → length ring ≡ k + 3 → Distinct ring → cutRing k ps ring ≡ done ts → measure M (points ps ring) ≡ measures (map ringOf ts)
+  cut-keeps k ring ts n d e = measure-points ring ∙ triangulation k ps ring ts n d e .sum sums by-number (λ a b. back (point ps a) (point ps b)) ∙ sym (measures-points (map ringOf ts))
+
+  pub merge-keeps : (pieces : List (List ℕ)) → measures (merge ps pieces) ≡ measures pieces
+  merge-keeps pieces = measures-points (merge ps pieces) ∙ merging ps pieces .sum sums by-number (λ a b. back (point ps a) (point ps b)) ∙ sym (measures-points pieces)
+
+-- ---- any pieces and what they are merged into
+
+module _ (ps : List Pt) (pieces : List (List ℕ)) where
+  pub pieces-inside : (p : Pt) → odd (λ t. inside p (points ps t)) (merge ps pieces) ≡ odd (λ t. inside p (points ps t)) pieces
+  unfolding inside
+  pieces-inside p = merge-keeps (crossing-parity p) ps pieces
+
+  pub pieces-area : total integers (λ t. area2 (points ps t)) (merge ps pieces) ≡ total integers (λ t. area2 (points ps t)) pieces
+  unfolding area2
+  pieces-area = merge-keeps doubled-area ps pieces
