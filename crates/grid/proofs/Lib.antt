@@ -1,0 +1,6 @@
+pub mod Value
+pub mod Canon
+pub mod Turn
+pub mod GridTest
+pub mod Sides
+pub mod Triangle

@@ -1,0 +1,31 @@
+-- Points and orientations of the code, as the rules' points and turns.
+use Prim.Native.Nat.{zero, suc}
+use mathlib.Core.Bool.{Bool, true, false, _&&_}
+use lib.IntN.{ℤ, pos, negsuc}
+use Rattle.rules.specs.Plane.{Pt}
+use Rattle.rules.specs.Grid.{onGrid, pointOf}
+use Rattle.grid.specs.declared.point.Point.{Point}
+use Rattle.grid.specs.declared.point_in_triangle.Orientation.{Orientation}
+use Rattle.grid.specs.declared.point_in_triangle.Orientation.the-variants.{Ccw, Cw, None}
+
+unfoldable pub onGridPt : Point → Bool
+onGridPt p = onGrid (p .x) && onGrid (p .y)
+
+abbrev pub ptOf : Point → Pt
+ptOf p = pointOf (p .x) (p .y)
+
+-- by the sign of a turn: plus is left, minus is right, zero is straight
+abbrev pub orientation : ℤ → Orientation
+orientation (pos zero) = None
+orientation (pos (suc n)) = Ccw
+orientation (negsuc n) = Cw
+
+abbrev pub isCcw : Orientation → Bool
+isCcw Ccw = true
+isCcw Cw = false
+isCcw None = false
+
+abbrev pub isCw : Orientation → Bool
+isCw Ccw = false
+isCw Cw = true
+isCw None = false

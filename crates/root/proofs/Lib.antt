@@ -1,0 +1,4 @@
+pub mod Digits
+pub mod Shift
+pub mod Quotient
+pub mod Length

@@ -1,0 +1,68 @@
+// The rounded square root of a whole number, and the pointiness of a corner: what the crate takes from `normalize`.
+mod nearest_root;
+
+use grid::point::Point;
+use nearest_root::nearest_root;
+ghost use mathlib.Core.Path.{_≡_};
+ghost use mathlib.Core.Bool.{true};
+ghost use Prim.Native.Nat.{_^_, _≤_, _<_};
+ghost use lib.Ieee.{binary32, mul, ofInt};
+ghost use Rattle.rules.specs.Plane.{minus};
+ghost use Rattle.rules.specs.Root.{Scaled, reciprocal as reciprocalOf, root as rootOf, pointiness as pointinessOf};
+ghost use Rattle.grid.specs.Points.{onGridPt, ptOf};
+
+// The j with 2^46 <= m * 4^j < 2^48.
+fn scale(m: u32) -> u32
+    requires { ⌜ 0 < m ⌝ }
+    requires { ⌜ m ≤ 2 ^ 23 ⌝ }
+    ensures { λ j. ⌜ Scaled m j ⌝ }
+{
+    23 - (31 - u32::leading_zeros(m)) / 2
+}
+
+// The root of m: k / 2^j, an exact quotient.
+pub fn root(m: u32) -> f32
+    requires { ⌜ m ≤ 2 ^ 23 ⌝ }
+    ensures { λ r. ⌜ r ≡ rootOf m ⌝ }
+{
+    if m == 0 {
+        return 0.0;
+    }
+    let j = scale(m);
+    let k = nearest_root((m as u64) << (2 * j));
+    k as f32 / (1u32 << j) as f32
+}
+
+// 1 / len of the vector from p to q.
+fn reciprocal(q: Point, p: Point) -> f32
+    requires { ⌜ onGridPt q ≡ true ⌝ }
+    requires { ⌜ onGridPt p ≡ true ⌝ }
+    ensures { λ r. ⌜ r ≡ reciprocalOf (minus (ptOf q) (ptOf p)) ⌝ }
+{
+    let d = q.side_from(p);
+    let square = d.dot(d);
+    1.0 / root(square as u32)
+}
+
+// The vector from p to q by the reciprocal of its length.
+fn direction(q: Point, p: Point) -> Point
+    requires { ⌜ onGridPt q ≡ true ⌝ }
+    requires { ⌜ onGridPt p ≡ true ⌝ }
+    ensures { λ v. ⌜ v .x ≡ mul binary32 (ofInt binary32 (minus (ptOf q) (ptOf p) .x)) (reciprocalOf (minus (ptOf q) (ptOf p))) ⌝ }
+    ensures { λ v. ⌜ v .y ≡ mul binary32 (ofInt binary32 (minus (ptOf q) (ptOf p) .y)) (reciprocalOf (minus (ptOf q) (ptOf p))) ⌝ }
+{
+    let r = reciprocal(q, p);
+    q.side_from(p).scaled(r)
+}
+
+// The pointiness of the corner p between q, the one before it, and s, the one after it.
+pub fn pointiness(q: Point, p: Point, s: Point) -> f32
+    requires { ⌜ onGridPt q ≡ true ⌝ }
+    requires { ⌜ onGridPt p ≡ true ⌝ }
+    requires { ⌜ onGridPt s ≡ true ⌝ }
+    ensures { λ r. ⌜ r ≡ pointinessOf (minus (ptOf q) (ptOf p)) (minus (ptOf s) (ptOf p)) ⌝ }
+{
+    let v = direction(q, p);
+    let w = direction(s, p);
+    v.dot(w)
+}
