@@ -1,6 +1,7 @@
 -- What follows from document 01's rules.
 pub mod Cases
 pub mod Coordinates
+pub mod Walks
 pub mod Turns
 pub mod Convex
 pub mod Squares

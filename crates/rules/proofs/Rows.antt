@@ -16,6 +16,10 @@ pub row-off : {t : Bool} (n : ℕ) (rows : List Row) → t ≡ false → firstRe
 unfolding firstRefusal
 row-off n rows e = rw e
 
+pub no-rows : firstRefusal [] ≡ 0
+unfolding firstRefusal
+no-rows = refl
+
 -- a list that gives m passes the rows that give another number
 pub skips : {m : ℕ} (t : Bool) (n : ℕ) (rows : List Row) → n ≢ m → firstRefusal (t gives n ∷ rows) ≡ m → (t ≡ false) × (firstRefusal rows ≡ m)
 unfolding firstRefusal
