@@ -1,20 +1,17 @@
 -- The crossing test by the direction at an edge, and the loop that counts the crossings' parity.
-use Prim.Native.Nat.{ℕ, _+_, _/_, _≤_, _<_}
+use Prim.Native.Nat.{ℕ, _+_, _≤_, _<_}
 use mathlib.Core.Path.{_≡_, refl, sym, _∙_, ap}
 use mathlib.Core.Bool.{Bool, true, false, not, _&&_, _||_, or-comm}
 use mathlib.Core.List.{List, [], _∷_}
 use native.Mathlib.Omega.{arith}
 use lib.ListN.{length}
 use lib.IntN.{ℤ, pos}
-use lib.Ieee.{Float}
 use lib.Signed.{ltZ}
 use Rattle.algebra.specs.Sums.{xor, xor-assoc, xor-comm}
 use Rattle.algebra.specs.Rings.{Edge, edges}
 use Rattle.algebra.proofs.Order.{leZ-not-ltZ}
 use Rattle.rules.specs.Plane.{Pt, turn}
-use Rattle.rules.specs.Grid.{pointsOf}
 use Rattle.rules.specs.Ear.{point}
-use Rattle.rules.proofs.Coordinates.{points-length}
 use Rattle.rules.specs.Crossing.{perp, crossed, odd, inside}
 use Rattle.rules.proofs.Turns.{perp-turn, below-neg, above-neg}
 use Rattle.rules.proofs.Walks.{edgesFrom, edges-first, edges-more, edges-last}
@@ -64,13 +61,6 @@ module _ (p a b : Pt) where
   rising α β = sym (crossed-is ∙ rw (α, β) (or-comm up false))
 
 -- ---- the loop over the edges
-
--- the number of points that the code compares with
-pub within : (cs : List Float) (i : ℕ) → i < length cs / 2 → i < length (pointsOf cs)
-within cs i h = omega (arith, points-length cs)
-
-pub past : (cs : List Float) (i : ℕ) → length cs / 2 ≤ i → length (pointsOf cs) ≤ i
-past cs i h = omega (arith, points-length cs)
 
 abbrev pub oddIn : Pt → List (Edge Pt) → Bool
 oddIn p es = odd (λ e. crossed p (e .from) (e .to)) es

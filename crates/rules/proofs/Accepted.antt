@@ -1,12 +1,12 @@
 -- What the cutter's refusals leave: where none applies, the outline has all that the theorems on cutting ask, and is cut.
-use Prim.Native.Nat.{ℕ, suc, _*_, _-_, _/_, _%_, _≤_, _<_}
+use Prim.Native.Nat.{ℕ, _*_, _-_, _/_, _%_, _≤_, _<_}
 use mathlib.Core.Path.{_≡_, refl, sym, _∙_, ap, subst}
 use mathlib.Core.Logic.{_≢_}
 use mathlib.Core.Bool.{Bool, true, false, not, _||_}
 use mathlib.Core.List.{List, [], _∷_, _++_}
 use native.Mathlib.Omega.{arith}
 use lib.Dec.{ltb, eqb}
-use lib.ListN.{length, take}
+use lib.ListN.{length}
 use lib.Signed.{leZ, ≤ℤ-refl}
 use lib.Ieee.{Float}
 use Rattle.algebra.specs.Lists.{Each, end, _&_, any, countFrom}
@@ -18,8 +18,8 @@ use Rattle.rules.specs.Grid.{pointsOf}
 use Rattle.rules.specs.Ear.{point}
 use Rattle.rules.specs.Cut.{Cut, stuck, done, cut}
 use Rattle.rules.specs.Measure.{points, Apart}
-use Rattle.rules.specs.Refusals.{Row, _gives_, firstRefusal, oddNumber, fewPoints, manyPoints, offGrid, same, equalNeighbours, isStuck, noEar, outOfRange, cutterChecks, mergerChecks}
-use Rattle.rules.proofs.Rows.{passes, skips, applies, row-off, row-on}
+use Rattle.rules.specs.Refusals.{_gives_, firstRefusal, oddNumber, fewPoints, manyPoints, offGrid, same, equalNeighbours, isStuck, noEar, outOfRange, cutterChecks, beforeCutting, mergerChecks}
+use Rattle.rules.proofs.Rows.{passes, skips, applies, row-off, row-on, front-gives}
 use Rattle.rules.proofs.Outline.{all-points}
 use Rattle.rules.proofs.Stuck.{NoEarLeft, stuck→no-ear, no-ear→stuck}
 
@@ -116,9 +116,36 @@ stuck-is : (c : Cut) → isStuck c ≡ true → c ≡ stuck
 stuck-is stuck h = refl
 stuck-is (done ts) h = impossible (cc)
 
--- the rows before refusal 7
-abbrev pub earlier : List Float → ℕ → List Row
-earlier cs room = take 6 (cutterChecks cs room)
+-- what the rows before 7 leave where none of them applies
+pub record Ready (cs : List Float) (room : ℕ) : Type 0 where
+  pub on-grid : offGrid cs ≡ false
+  pub three : 3 ≤ length (pointsOf cs)
+  pub at-most : length (pointsOf cs) ≤ 512
+  pub fits : 3 * (length (pointsOf cs) - 2) ≤ room
+  pub last-row : firstRefusal (cutterChecks cs room) ≡ firstRefusal (noEar (pointsOf cs) gives 7 ∷ [])
+
+pub ready : (cs : List Float) (room : ℕ) → firstRefusal (beforeCutting cs room) ≡ 0 → Ready cs room
+unfolding cutterChecks
+ready cs room e₀ =
+    let ps = pointsOf cs in
+    let (odd, e₁) = passes (oddNumber cs) 0 _ e₀ in
+    let (few, e₂) = passes (fewPoints cs) 1 _ e₁ in
+    let (many, e₃) = passes (manyPoints cs) 2 _ e₂ in
+    let (off, e₄) = passes (offGrid cs) 3 _ e₃ in
+    let (equal, e₅) = passes (equalNeighbours ps) 4 _ e₄ in
+    let (short, e₆) = passes (ltb room (3 * (length ps - 2))) 5 _ e₅ in
+    record {
+      on-grid = off;
+      three = ltb-false (length ps) 3 few;
+      at-most = ltb-false 512 (length ps) many;
+      fits = ltb-false room (3 * (length ps - 2)) short;
+      last-row = row-off 1 _ odd ∙ row-off 2 _ few ∙ row-off 3 _ many ∙ row-off 4 _ off ∙ row-off 5 _ equal ∙ row-off 6 _ short;
+    }
+
+-- the rows before 7, and 7
+pub refused-early : (cs : List Float) (room n : ℕ) → n ≡ firstRefusal (beforeCutting cs room) → (n ≡ 0 → ⊥) → n ≡ firstRefusal (cutterChecks cs room)
+unfolding cutterChecks
+refused-early cs room n e h = front-gives (beforeCutting cs room) (noEar (pointsOf cs) gives 7 ∷ []) n e h
 
 -- where none of the earlier ones applies, 7 is given exactly for a ring of four or more, met on the way, that has no ear
 pub seven→no-ear : (cs : List Float) (room : ℕ) → firstRefusal (cutterChecks cs room) ≡ 7 → NoEarLeft (pointsOf cs) (countFrom 0 (length (pointsOf cs)))
@@ -133,20 +160,8 @@ seven→no-ear cs room e₀ =
     let (short, e₆) = skips {m = 7} (ltb room (3 * (length ps - 2))) 6 _ (omega arith) e₅ in
     stuck→no-ear ps (ltb-false (length ps) 3 few) (stuck-is (cut ps) (applies (noEar ps) 6 e₆))
 
-pub no-ear→seven : (cs : List Float) (room : ℕ) → firstRefusal (earlier cs room) ≡ 0 → NoEarLeft (pointsOf cs) (countFrom 0 (length (pointsOf cs))) → firstRefusal (cutterChecks cs room) ≡ 7
-unfolding cutterChecks noEar
-no-ear→seven cs room e₀ h =
-    let ps = pointsOf cs in
-    let (odd, e₁) = passes (oddNumber cs) 0 _ e₀ in
-    let (few, e₂) = passes (fewPoints cs) 1 _ e₁ in
-    let (many, e₃) = passes (manyPoints cs) 2 _ e₂ in
-    let (off, e₄) = passes (offGrid cs) 3 _ e₃ in
-    let (equal, e₅) = passes (equalNeighbours ps) 4 _ e₄ in
-    let (short, e₆) = passes (ltb room (3 * (length ps - 2))) 5 _ e₅ in
-    row-off 1 _ odd
-    ∙ row-off 2 _ few
-    ∙ row-off 3 _ many
-    ∙ row-off 4 _ off
-    ∙ row-off 5 _ equal
-    ∙ row-off 6 _ short
-    ∙ row-on 7 [] (ap isStuck (no-ear→stuck ps (ltb-false (length ps) 3 few) h))
+pub no-ear→seven : (cs : List Float) (room : ℕ) → firstRefusal (beforeCutting cs room) ≡ 0 → NoEarLeft (pointsOf cs) (countFrom 0 (length (pointsOf cs))) → firstRefusal (cutterChecks cs room) ≡ 7
+unfolding noEar
+no-ear→seven cs room e h =
+    let r = ready cs room e in
+    r .last-row ∙ row-on 7 [] (ap isStuck (no-ear→stuck (pointsOf cs) (r .three) h))

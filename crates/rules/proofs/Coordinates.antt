@@ -33,6 +33,16 @@ point-is (x ∷ y ∷ cs) (suc i) h =
     let f : suc (suc (i * 2)) + 1 ≡ suc (suc (i * 2 + 1)) = omega arith in
     rw (e, f) (point-is cs i (omega arith))
 
+-- the number of points, as a loop over them compares it
+pub within : (cs : List Float) (i : ℕ) → i < length cs / 2 → i < length (pointsOf cs)
+within cs i h = omega (arith, points-length cs)
+
+pub past : (cs : List Float) (i : ℕ) → length cs / 2 ≤ i → length (pointsOf cs) ≤ i
+past cs i h = omega (arith, points-length cs)
+
+pub point-fits : (cs : List Float) (i : ℕ) → i < length (pointsOf cs) → i * 2 + 1 < length cs
+point-fits cs i h = omega (arith, points-length cs)
+
 -- where none is off the grid, each is on it
 pub grid-at : (cs : List Float) (k : ℕ) → offGrid cs ≡ false → k < length cs → onGrid (getD cs k nan) ≡ true
 unfolding offGrid

@@ -1,27 +1,24 @@
 -- Demand 3 for whole outlines: what the triangles of a cut keep of the outline.
 use Prim.Native.Nat.{ℕ, zero, suc, _+_, _-_, _≤_, _<_}
-use mathlib.Core.Path.{_≡_, refl, sym, _∙_, ap}
-use mathlib.Core.List.{List, [], _∷_, map}
+use mathlib.Core.Path.{_≡_, sym, _∙_, ap}
+use mathlib.Core.List.{List, _∷_, map}
 use native.Mathlib.Omega.{arith}
-use lib.Dec.{lit≤}
 use lib.IntN.{pos}
 use lib.ListN.{length, drop, drop-of-length-le}
 use lib.Seq.{drop-cons}
 use Rattle.algebra.specs.Lists.{Each, countFrom}
-use Rattle.algebra.proofs.Lists.{each-imp, each-all, each-map}
+use Rattle.algebra.proofs.Lists.{each-imp}
 use Rattle.algebra.proofs.Counting.{count-within, count-distinct, count-length}
-use Rattle.algebra.specs.Sums.{total, integers, naturals}
+use Rattle.algebra.specs.Sums.{total, integers}
 use Rattle.rules.specs.Plane.{Pt}
 use Rattle.algebra.specs.Rings.{Corner, ringOf}
 use Rattle.rules.specs.Crossing.{odd, inside}
 use Rattle.rules.specs.Measure.{points, area2, Apart}
 use Rattle.rules.specs.Ear.{point}
 use Rattle.rules.specs.Cut.{done, cutRing, cut}
-use Rattle.rules.specs.Merge.{merge}
 use Rattle.rules.proofs.Cuts.{cuts, cuts-each, cuts-length}
-use Rattle.rules.proofs.Pieces.{merging}
 use Rattle.rules.proofs.Neighbours.{Met, met-apart}
-use Rattle.rules.proofs.Measures.{Measure, measure, measures, cut-keeps, merge-keeps, crossing-parity, doubled-area}
+use Rattle.rules.proofs.Measures.{Measure, measure, measures, cut-keeps, crossing-parity, doubled-area}
 
 -- ---- the ring at first: 0 to n - 1
 

@@ -1,7 +1,6 @@
 -- Demand 3 over what the entries give back: the written triangles and pieces, read from lent memory.
 use Prim.Native.Nat.{ℕ, zero, suc, _*_, _-_, _≤_, _<_}
 use mathlib.Core.Path.{_≡_, refl, sym, _∙_, ap}
-use mathlib.Core.Bool.{Bool, false}
 use mathlib.Core.List.{List, [], _∷_, map}
 use native.Mathlib.Omega.{arith}
 use lib.ListN.{length, take, drop, length-map}
@@ -18,7 +17,7 @@ use Rattle.rules.specs.Grid.{pointsOf}
 use Rattle.rules.specs.Crossing.{odd, inside}
 use Rattle.rules.specs.Ear.{point}
 use Rattle.rules.specs.Merge.{merge}
-use Rattle.rules.specs.Layout.{flatten, split, triples, over}
+use Rattle.rules.specs.Layout.{flatten, triples, over}
 use Rattle.rules.specs.Refusals.{firstRefusal, cutterChecks, mergerChecks}
 use Rattle.rules.specs.Entries.{unless, Cutting, Merging, trianglesOf, trianglesFor, cutter, merger, writtenTriangles, writtenPieces}
 use Rattle.rules.specs.Measure.{points, area2, NotRight, NotClockwise, NoneRight, Apart}

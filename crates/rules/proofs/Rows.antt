@@ -3,7 +3,7 @@ use Prim.Native.Nat.{ℕ, suc}
 use mathlib.Core.Path.{_≡_, refl}
 use mathlib.Core.Logic.{_≢_}
 use mathlib.Core.Bool.{Bool, true, false}
-use mathlib.Core.List.{List, [], _∷_}
+use mathlib.Core.List.{List, [], _∷_, _++_}
 use native.Mathlib.Omega.{arith}
 use Rattle.rules.specs.Refusals.{Row, _gives_, firstRefusal}
 
@@ -35,3 +35,10 @@ pub applies : (t : Bool) (n : ℕ) → firstRefusal (t gives suc n ∷ []) ≡ s
 unfolding firstRefusal
 applies true n h = refl
 applies false n h = absurd (omega arith)
+
+-- what the front rows give, all of them give
+pub front-gives : (rows more : List Row) (n : ℕ) → n ≡ firstRefusal rows → (n ≡ 0 → ⊥) → n ≡ firstRefusal (rows ++ more)
+unfolding firstRefusal
+front-gives [] more n e h = absurd (h e)
+front-gives (true gives k ∷ rows) more n e h = e
+front-gives (false gives k ∷ rows) more n e h = front-gives rows more n e h

@@ -51,4 +51,4 @@ up-down : (p a b : Pt) → downward p b a ≡ upward p a b
 up-down p a b = ap (λ (t : Bool). leZ (a .y) (p .y) && (ltZ (p .y) (b .y) && t)) (ap (ltZ (pos 0)) (perp-back p a b) ∙ below-neg (perp p a b))
 
 pub crossed-back : (p a b : Pt) → crossed p a b ≡ crossed p b a
-crossed-back p a b = ap₂ _||_ (sym (up-down p a b)) (up-down p b a) ∙ or-comm (downward p b a) (upward p b a)
+crossed-back p a b = ap₂ (λ s t. s || t) (sym (up-down p a b)) (up-down p b a) ∙ or-comm (downward p b a) (upward p b a)

@@ -3,7 +3,7 @@ use Prim.Native.Nat.{ℕ, _*_, _-_, _/_, _%_}
 use mathlib.Core.Bool.{Bool, true, false, cond, not, _&&_, _||_}
 use mathlib.Core.List.{List, [], _∷_}
 use lib.Dec.{eqb, ltb}
-use lib.ListN.{length}
+use lib.ListN.{length, take}
 use lib.Signed.{leZ}
 use lib.Ieee.{Float}
 use Rattle.algebra.specs.Lists.{any}
@@ -65,6 +65,10 @@ cutterChecks cs room =
     ∷ ltb room (3 * (length (pointsOf cs) - 2)) gives 6
     ∷ noEar (pointsOf cs) gives 7
     ∷ []
+
+-- the cutter's rows before 7: those that need no cut
+abbrev pub beforeCutting : List Float → ℕ → List Row
+beforeCutting cs room = take 6 (cutterChecks cs room)
 
 unfoldable pub mergerChecks : List Float → List ℕ → ℕ → ℕ → List Row
 unfolding offGrid outOfRange

@@ -3,8 +3,9 @@ use Prim.Native.Nat.{_-_}
 use native.Mathlib.Omega.{arith}
 use borrow.Author.Needs.{needs}
 use Rattle.rules.specs.Grid.{pointsOf}
+use Rattle.rules.proofs.Coordinates.{within, past}
 use Rattle.grid.specs.Points.{ptOf}
-use Rattle.point_in_poly2d.proofs.Crossings.{within, past, Walk, walk-none, walk-first, walk-more, walk-last}
+use Rattle.point_in_poly2d.proofs.Crossings.{Walk, walk-none, walk-first, walk-more, walk-last}
 use Rattle.point_in_poly2d.proofs.odd_crossings.Statement.{statement}
 use Rattle.point_in_poly2d.proofs.odd_crossings.Tie as tie
 

@@ -3,8 +3,8 @@ use Prim.Native.Nat.{_-_}
 use native.Mathlib.Omega.{arith}
 use borrow.Author.Needs.{needs}
 use Rattle.rules.specs.Grid.{pointsOf}
+use Rattle.rules.proofs.Coordinates.{within, past}
 use Rattle.grid.specs.Points.{ptOf}
-use Rattle.point_in_poly2d.proofs.Crossings.{within, past}
 use Rattle.point_in_poly2d.proofs.Sides.{Sides, sides-none, sides-first, sides-more, sides-broken, sides-last}
 use Rattle.point_in_poly2d.proofs.one_side.Statement.{statement}
 use Rattle.point_in_poly2d.proofs.one_side.Tie as tie

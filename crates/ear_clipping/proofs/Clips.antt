@@ -1,0 +1,193 @@
+-- One turn of the cutter, on the state and on the ring; what has been written; and what comes back.
+use Prim.Native.Nat.{ℕ, suc, _+_, _-_, _*_, _≤_, _<_}
+use native.Mathlib.Omega.{arith}
+use mathlib.Core.Path.{_≡_, refl, ap, sym, _∙_}
+use mathlib.Core.Bool.{true}
+use mathlib.Core.List.{List, [], _∷_, _++_, map}
+use lib.ListN.{length, take, drop, length-set, length-map}
+use lib.Ieee.{Float}
+use Rattle.algebra.specs.Lists.{countFrom}
+use Rattle.algebra.specs.Rings.{Corner, corners, ringOf}
+use Rattle.algebra.proofs.Counting.{count-length}
+use Rattle.rules.specs.Plane.{Pt}
+use Rattle.rules.specs.Cut.{Choice, nothing, best, choose, without, Cut, stuck, done, write, lowest, cutRing, cut}
+use Rattle.rules.specs.Layout.{flatten}
+use Rattle.rules.specs.Entries.{trianglesOf, trianglesFor}
+use Rattle.rules.proofs.Outline.{cut-count}
+use Rattle.rules.proofs.Layouts.{triangles-length}
+use Rattle.ear_clipping.specs.Vertices.{prevOf, nextOf, activeOf, cornerAt, linkedCorner, those, ringIn, Stands, clipped, pickFrom, lowestFrom}
+use Rattle.ear_clipping.specs.Store.{put3}
+use Rattle.ear_clipping.specs.Promise.{Written}
+use Rattle.ear_clipping.specs.declared.vertices.Pick.{Pick}
+use Rattle.ear_clipping.specs.declared.vertices.Pick.the-variants.{Nothing, At}
+use Rattle.ear_clipping.specs.declared.vertices.Vertices.{Vertices}
+use Rattle.ear_clipping.proofs.Unlink.{corners-map, without-length}
+use Rattle.ear_clipping.proofs.Picks.{chosen, picks}
+use Rattle.ear_clipping.proofs.Actives.{PickOk, pick-ok, once, Lowest, none, some, lowest as lowest-on}
+use Rattle.ear_clipping.proofs.Steps.{cut-rep, cut-ring}
+use Rattle.ear_clipping.proofs.Writes.{take-put}
+
+-- ---- one turn
+
+-- what a choice makes of the cut of the rest
+abbrev gone-on : ℕ → List Pt → List ℕ → Choice → Cut
+gone-on k ps ring nothing = stuck
+gone-on k ps ring (best c f) = write c (cutRing k ps (without (c .at) ring))
+
+module _ (ps : List Pt) (n : ℕ) (s : Vertices) (h : Stands ps n s) where
+  chose : choose ps nothing (corners (ringIn n s)) ≡ chosen s (pickFrom s Nothing 0 n)
+  chose = ap (choose ps nothing) (corners-map (prevOf s) (nextOf s) (ringIn n s) (h .links)) ∙ picks ps s n (h .right-ears) Nothing 0 n (omega arith)
+
+  cut-more : (k : ℕ) (b : Choice) → choose ps nothing (corners (ringIn n s)) ≡ b → cutRing (suc k) ps (ringIn n s) ≡ gone-on k ps (ringIn n s) b
+  unfolding cutRing
+  cut-more k nothing e = rw (e, cutRing)
+  cut-more k (best c f) e = rw (e, cutRing)
+
+  turn : (k : ℕ) (b : Pick) → pickFrom s Nothing 0 n ≡ b → cutRing (suc k) ps (ringIn n s) ≡ gone-on k ps (ringIn n s) (chosen s b)
+  turn k b e = cut-more k (chosen s b) (chose ∙ ap (chosen s) e)
+
+  pub cut-none : (left : ℕ) → 3 < left → pickFrom s Nothing 0 n ≡ Nothing → cutRing (left - 3) ps (ringIn n s) ≡ stuck
+  cut-none left l e = let q : left - 3 ≡ suc (left - 4) = omega arith in rw q (turn (left - 4) Nothing e)
+
+  pub picked : (i : ℕ) (v : Float) → pickFrom s Nothing 0 n ≡ At i v → (i < n) × (activeOf s i ≡ true)
+  picked i v e =
+      let r : PickOk (activeOf s) n (pickFrom s Nothing 0 n) = pick-ok s n Nothing 0 n (omega arith) tt in
+      rw e at r
+
+  pub cut-some :
+      (left i : ℕ) (v : Float) → 3 < left → n ≤ 512 → pickFrom s Nothing 0 n ≡ At i v
+      → cutRing (left - 3) ps (ringIn n s) ≡ write (cornerAt s i) (cutRing (left - 1 - 3) ps (ringIn n (clipped ps s i)))
+  cut-some left i v l small e =
+      let q : left - 3 ≡ suc (left - 1 - 3) = omega arith in
+      let r = picked i v e in
+      rw (q, cut-ring ps n s h small i (r .0) (r .1)) (turn (left - 1 - 3) (At i v) e)
+
+  pub ring-less : (i : ℕ) (v : Float) → n ≤ 512 → pickFrom s Nothing 0 n ≡ At i v → length (ringIn n s) ≡ suc (length (ringIn n (clipped ps s i)))
+  ring-less i v small e =
+      let r = picked i v e in
+      rw (cut-ring ps n s h small i (r .0) (r .1)) (without-length i (once (activeOf s) i 0 n (omega arith) (omega (arith, r .0)) (r .1)))
+
+  -- the last three: the lowest active number
+  pub last-some :
+      length (ringIn n s) ≡ 3
+      → (lowestFrom (activeOf s) 0 n < n) × (activeOf s (lowestFrom (activeOf s) 0 n) ≡ true) × (cutRing 0 ps (ringIn n s) ≡ done (cornerAt s (lowestFrom (activeOf s) 0 n) ∷ []))
+  unfolding cutRing
+  last-some three = go (lowest-on (activeOf s) 0 n)
+    where
+      go :
+          Lowest (activeOf s) 0 n
+          → (lowestFrom (activeOf s) 0 n < n) × (activeOf s (lowestFrom (activeOf s) 0 n) ≡ true) × (cutRing 0 ps (ringIn n s) ≡ done (cornerAt s (lowestFrom (activeOf s) 0 n) ∷ []))
+      go (none a b) = absurd (omega (arith, ap length b))
+      go (some l a b d) = (omega arith, d, ap lowest (corners-map (prevOf s) (nextOf s) (ringIn n s) (h .links) ∙ ap (map (linkedCorner (prevOf s) (nextOf s))) a))
+
+-- ---- what has been written
+
+-- the triangles w before those of a cut
+unfoldable pub writeAll : List (Corner ℕ) → Cut → Cut
+writeAll [] x = x
+writeAll (c ∷ w) x = write c (writeAll w x)
+
+all-more : (w : List (Corner ℕ)) (c : Corner ℕ) (x : Cut) → writeAll w (write c x) ≡ writeAll (w ++ c ∷ []) x
+unfolding writeAll
+all-more [] c x = refl
+all-more (d ∷ w) c x = ap (write d) (all-more w c x)
+
+all-stuck : (w : List (Corner ℕ)) → writeAll w stuck ≡ stuck
+unfolding writeAll
+all-stuck [] = refl
+all-stuck (d ∷ w) = ap (write d) (all-stuck w)
+
+all-done : (w cs : List (Corner ℕ)) → writeAll w (done cs) ≡ done (w ++ cs)
+unfolding writeAll
+all-done [] cs = refl
+all-done (d ∷ w) cs = ap (write d) (all-done w cs)
+
+flat-more : (w : List (Corner ℕ)) (c : Corner ℕ) → flatten (map ringOf (w ++ c ∷ [])) ≡ flatten (map ringOf w) ++ ringOf c
+unfolding flatten
+flat-more [] c = refl
+flat-more (d ∷ w) c = simp (flat-more w c)
+
+-- the loop's invariant: the cut is what is written, and the cut of the ring that is left
+pub record Inv (ps : List Pt) (n : ℕ) (triangles : List ℕ) (s : Vertices) (left k : ℕ) : Type 0 where
+  pub more : 3 ≤ left
+  pub most : left ≤ n
+  pub count : k + 3 * left ≡ 3 * n
+  pub size : length triangles ≡ 1530
+  pub stands : Stands ps n s
+  pub ring-size : length (ringIn n s) ≡ left
+  pub written : List (Corner ℕ)
+  pub store : take k triangles ≡ flatten (map ringOf written)
+  pub work : cut ps ≡ writeAll written (cutRing (left - 3) ps (ringIn n s))
+
+pub inv-first : (ps : List Pt) (n : ℕ) (triangles : List ℕ) (s : Vertices) → 3 ≤ n → n ≡ length ps → length triangles ≡ 1530 → Stands ps n s → ringIn n s ≡ countFrom 0 n → Inv ps n triangles s n 0
+unfolding cut writeAll flatten
+inv-first ps n triangles s big is z h e = record {
+  more = big;
+  most = omega arith;
+  count = omega arith;
+  size = z;
+  stands = h;
+  ring-size = rw e (count-length 0 n);
+  written = [];
+  store = refl;
+  work = rw (← is) (ap (cutRing (n - 3) ps) (sym e));
+}
+
+module _ (ps : List Pt) (n : ℕ) (triangles : List ℕ) (s : Vertices) (left k : ℕ) (h : Inv ps n triangles s left k) (small : n ≤ 512) where
+  put-size : (a b c : ℕ) → length (put3 triangles k a b c) ≡ 1530
+  put-size a b c = simp length-set (h .size)
+
+  pub put-fits : k + 2 < 1530
+  put-fits = omega (arith, h .count, h .more, h .most)
+
+  put-store : (i : ℕ) → take (k + 3) (put3 triangles k (prevOf s i) i (nextOf s i)) ≡ flatten (map ringOf (h .written ++ cornerAt s i ∷ []))
+  put-store i =
+      take-put triangles k (prevOf s i) i (nextOf s i) (omega (arith, put-fits, h .size))
+      ∙ ap (λ (x : List ℕ). x ++ ringOf (cornerAt s i)) (h .store)
+      ∙ sym (flat-more (h .written) (cornerAt s i))
+
+  pub inv-more :
+      (i : ℕ) (v : Float) → 3 < left → pickFrom s Nothing 0 n ≡ At i v → (b f : ℕ) → b ≡ prevOf s i → f ≡ nextOf s i → (triangles' : List ℕ) (s' : Vertices)
+      → triangles' ≡ put3 triangles k b i f → s' ≡ clipped ps s i → Inv ps n triangles' s' (left - 1) (k + 3)
+  inv-more i v l e b f eb ef triangles' s' put clip =
+      let r = picked ps n s (h .stands) i v e in
+      rw (put, clip, eb, ef)
+      (record {
+        more = omega (arith, h .more);
+        most = omega (arith, h .most);
+        count = omega (arith, h .count);
+        size = put-size (prevOf s i) i (nextOf s i);
+        stands = cut-rep ps n s (h .stands) small i (r .0) (r .1);
+        ring-size = omega (arith, h .ring-size, ring-less ps n s (h .stands) i v small e);
+        written = h .written ++ cornerAt s i ∷ [];
+        store = put-store i;
+        work =
+            h .work
+            ∙ ap (writeAll (h .written)) (cut-some ps n s (h .stands) left i v l small e)
+            ∙ all-more (h .written) (cornerAt s i) (cutRing (left - 1 - 3) ps (ringIn n (clipped ps s i)));
+      })
+
+  -- ---- what comes back
+
+  pub stuck-here : (out : List ℕ) → cutRing (left - 3) ps (ringIn n s) ≡ stuck → Written ps out 0 out
+  unfolding trianglesFor flatten
+  stuck-here out e =
+      let q : trianglesFor ps ≡ [] = ap (λ c. map ringOf (trianglesOf c)) (h .work ∙ ap (writeAll (h .written)) e ∙ all-stuck (h .written)) in
+      record { count = rw q; indices = rw q }
+
+  pub answer :
+      (i : ℕ) → left ≡ 3 → n ≡ length ps → cutRing 0 ps (ringIn n s) ≡ done (cornerAt s i ∷ []) → (b f : ℕ) → b ≡ prevOf s i → f ≡ nextOf s i
+      → (triangles' out out' : List ℕ) → triangles' ≡ put3 triangles k b i f → out' ≡ take (k + 3) triangles' ++ drop (k + 3) out → Written ps out (n - 2) out'
+  unfolding trianglesFor
+  answer i three is e b f eb ef triangles' out out' put copied =
+      let w = h .written ++ cornerAt s i ∷ [] in
+      let zero-left : left - 3 ≡ 0 = omega arith in
+      let cuts : cut ps ≡ done w = h .work ∙ ap (writeAll (h .written)) (ap (λ (x : ℕ). cutRing x ps (ringIn n s)) zero-left ∙ e) ∙ all-done (h .written) (cornerAt s i ∷ []) in
+      let q : trianglesFor ps ≡ map ringOf w = ap (λ c. map ringOf (trianglesOf c)) cuts in
+      let n≡ : length w ≡ length ps - 2 = cut-count ps w (omega (arith, h .more, h .most)) cuts in
+      let size : length (flatten (map ringOf w)) ≡ k + 3 = triangles-length w ∙ omega (arith, n≡, h .count) in
+      let f₁ : take (k + 3) triangles' ≡ flatten (map ringOf w) = rw (put, eb, ef) (put-store i) in
+      record {
+        count = rw (q, length-map w ringOf) (omega (arith, n≡));
+        indices = rw (q, size) (copied ∙ ap (λ (x : List ℕ). x ++ drop (k + 3) out) f₁);
+      }

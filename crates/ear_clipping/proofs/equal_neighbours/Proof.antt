@@ -1,0 +1,61 @@
+-- `equal_neighbours` meets its contract. The invariant: no edge that was passed has equal ends.
+use Prim.Native.Nat.{_-_}
+use native.Mathlib.Omega.{arith}
+use Rattle.rules.specs.Grid.{pointsOf}
+use Rattle.rules.proofs.Coordinates.{within, past, point-fits}
+use Rattle.ear_clipping.proofs.Neighbours.{Walk, walk-first, walk-found, walk-more, walk-last}
+use Rattle.ear_clipping.proofs.equal_neighbours.Statement.{statement}
+use Rattle.ear_clipping.proofs.equal_neighbours.Tie as tie
+
+abbrev Inv-loop : tie.InvT-loop
+Inv-loop coords n first a₀ i₀ a i = Walk (pointsOf coords) a i
+
+abbrev μ-loop : tie.MeasureT-loop
+μ-loop coords n first a₀ i₀ a i = n - i
+
+point-at-requires : tie.Need-point-at-requires Inv-loop μ-loop
+point-at-requires c κs = (c .before .pre .0, point-fits _ 0 (c .before .pre .1))
+
+loop-holds : tie.Need-loop-holds Inv-loop μ-loop
+loop-holds c = walk-first _ _ (c .point-at .ensures .0) (c .point-at .ensures .1) (c .before .before .pre .1)
+
+point-at-requires-2 : tie.Need-point-at-requires-2 Inv-loop μ-loop
+point-at-requires-2 c κs = (c .before .before .before .before .pre .0, omega (arith, c .loop-test .taken))
+
+same-requires : tie.Need-same-requires Inv-loop μ-loop
+same-requires c κs = (c .before .before .loop .inv .on, c .point-at2 .ensures .0)
+
+returns : tie.Need-returns Inv-loop μ-loop
+returns c = walk-found (c .before .before .before .before .loop .inv) (within _ _ (c .before .before .before .loop-test .taken)) (c .before .before .point-at2 .result) (c .before .before .point-at2 .ensures .1) _ (c .before .same .ensures) (c .if1 .taken)
+
+add-i : tie.Need-add-i Inv-loop μ-loop
+add-i c = omega arith
+
+loop-less : tie.Need-loop-less Inv-loop μ-loop
+loop-less c = omega arith
+
+loop-again : tie.Need-loop-again Inv-loop μ-loop
+loop-again c = walk-more (c .before .before .before .before .loop .inv) (within _ _ (c .before .before .before .loop-test .taken)) _ (c .before .before .point-at2 .ensures .1) _ (c .before .same .ensures) (c .before .before .point-at2 .ensures .0) (c .if1 .left)
+
+same-requires-2 : tie.Need-same-requires-2 Inv-loop μ-loop
+same-requires-2 c κs = (c .before .loop .inv .on, c .before .before .point-at .ensures .0)
+
+returns-2 : tie.Need-returns-2 Inv-loop μ-loop
+returns-2 c = walk-last (c .before .before .loop .inv) (past _ _ (c .before .loop-test .left)) (c .before .before .before .point-at .result) (c .before .before .before .point-at .ensures .1) _ (c .same2 .ensures)
+
+pub equal-neighbours-spec : {M : Type 1} → statement M
+equal-neighbours-spec =
+    tie.close
+    (tie.spec
+    Inv-loop
+    μ-loop
+    point-at-requires
+    loop-holds
+    point-at-requires-2
+    same-requires
+    returns
+    add-i
+    loop-less
+    loop-again
+    same-requires-2
+    returns-2)

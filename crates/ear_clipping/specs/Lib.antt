@@ -1,0 +1,4 @@
+pub mod Ears
+pub mod Vertices
+pub mod Store
+pub mod Promise

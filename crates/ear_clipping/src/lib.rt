@@ -1,0 +1,167 @@
+// The cutter: after the crate's src/transformation/ear_clipping.rs.
+mod ear;
+mod vertices;
+
+use grid::point::Point;
+use vertices::Pick;
+use vertices::Vertices;
+ghost use mathlib.Core.Path.{_≡_};
+ghost use mathlib.Core.Bool.{true, false};
+ghost use mathlib.Core.List.{_++_};
+ghost use Prim.Native.Nat.{_+_, _-_, _*_, _≤_, _<_};
+ghost use lib.ListN.{length, take, drop};
+ghost use Rattle.rules.specs.Grid.{pointsOf};
+ghost use Rattle.rules.specs.Refusals.{same as sameOf, offGrid, equalNeighbours, firstRefusal, beforeCutting};
+ghost use Rattle.grid.specs.Points.{onGridPt, ptOf};
+ghost use Rattle.ear_clipping.specs.Store.{put3};
+ghost use Rattle.ear_clipping.specs.Promise.{Written, Promise};
+
+// Document 01's number, and how many triangles were written.
+pub struct Answer {
+    pub number: u32,
+    pub count: u32,
+}
+
+fn same(a: Point, b: Point) -> bool
+    requires { ⌜ onGridPt a ≡ true ⌝ }
+    requires { ⌜ onGridPt b ≡ true ⌝ }
+    ensures { λ r. ⌜ r ≡ sameOf (ptOf a) (ptOf b) ⌝ }
+{
+    if b.x < a.x {
+        return false;
+    }
+    if a.x < b.x {
+        return false;
+    }
+    if b.y < a.y {
+        return false;
+    }
+    if a.y < b.y {
+        return false;
+    }
+    true
+}
+
+// Whether two ring neighbours are equal.
+fn equal_neighbours(coords: &[f32]) -> bool
+    requires { ⌜ offGrid (now coords) ≡ false ⌝ }
+    requires { ⌜ 0 < length (pointsOf (now coords)) ⌝ }
+    ensures { λ r. ⌜ r ≡ equalNeighbours (pointsOf (now (coords .entry))) ⌝ }
+{
+    let n = coords.len() / 2;
+    let first = grid::point_at(coords, 0);
+    let mut a = first;
+    let mut i = 1;
+    while i < n {
+        let b = grid::point_at(coords, i);
+        if same(a, b) {
+            return true;
+        }
+        a = b;
+        i += 1;
+    }
+    same(a, first)
+}
+
+// The number of the first refusal from 1 to 6 that applies, and 0 where none does.
+fn refusal(coords: &[f32], room: usize) -> u32
+    ensures { λ r. ⌜ r ≡ firstRefusal (beforeCutting (now (coords .entry)) room) ⌝ }
+{
+    if coords.len() % 2 == 1 {
+        return 1;
+    }
+    let n = coords.len() / 2;
+    if n < 3 {
+        return 2;
+    }
+    if 512 < n {
+        return 3;
+    }
+    if grid::off_grid(coords) {
+        return 4;
+    }
+    if equal_neighbours(coords) {
+        return 5;
+    }
+    if room < 3 * (n - 2) {
+        return 6;
+    }
+    0
+}
+
+fn zeros() -> [u32; 1530]
+    ensures { λ r. ⌜ length r ≡ 1530 ⌝ }
+{
+    [0u32; 1530]
+}
+
+// Writes a triangle at place k.
+fn put(triangles: &mut [u32; 1530], k: usize, a: usize, b: usize, c: usize)
+    requires { ⌜ (k + 2 < 1530) × (a < 512) × (b < 512) × (c < 512) ⌝ }
+    ensures { λ r. ⌜ now (triangles .exit) ≡ put3 (now (triangles .entry)) k a b c ⌝ }
+{
+    triangles[k] = a as u32;
+    triangles[k + 1] = b as u32;
+    triangles[k + 2] = c as u32;
+}
+
+// Copies the first k of the triangles' indices to the lent slice.
+fn copy(triangles: &[u32; 1530], k: usize, indices: &mut [u32])
+    requires { ⌜ (k ≤ 1530) × (k ≤ length (now indices)) × (length (now triangles) ≡ 1530) ⌝ }
+    ensures { λ r. ⌜ now (indices .exit) ≡ take k (now (triangles .entry)) ++ drop k (now (indices .entry)) ⌝ }
+{
+    let mut i = 0;
+    while i < k {
+        indices[i] = triangles[i];
+        i += 1;
+    }
+}
+
+// Cuts an outline of n corners. Answers the number of triangles, or 0 where a ring has no ear; then nothing is written.
+fn cut(coords: &[f32], n: usize, indices: &mut [u32]) -> u32
+    requires { ⌜ offGrid (now coords) ≡ false ⌝ }
+    requires { ⌜ (3 ≤ n) × (n ≤ 512) × (n ≡ length (pointsOf (now coords))) ⌝ }
+    requires { ⌜ 3 * (n - 2) ≤ length (now indices) ⌝ }
+    ensures { λ r. ⌜ Written (pointsOf (now (coords .entry))) (now (indices .entry)) r (now (indices .exit)) ⌝ }
+{
+    let mut triangles = zeros();
+    let mut ring = Vertices::start(coords, n);
+    let mut left = n;
+    let mut k = 0;
+    while 3 < left {
+        let best = ring.pick(n);
+        let Pick::At(i, _) = best else {
+            return 0;
+        };
+        let before = ring.before(i);
+        let after = ring.after(i);
+        put(&mut triangles, k, before, i, after);
+        ring = ring.clip(coords, n, i);
+        k += 3;
+        left -= 1;
+    }
+    let i = ring.lowest(n);
+    let before = ring.before(i);
+    let after = ring.after(i);
+    put(&mut triangles, k, before, i, after);
+    copy(&triangles, k + 3, indices);
+    (n - 2) as u32
+}
+
+// Cuts an outline into triangles, by ears from the pointiest on: three indices each, in the order of the cuts.
+pub fn triangulate_ear_clipping(coords: &[f32], indices: &mut [u32]) -> Answer
+    ensures { λ r. ⌜ Promise (now (coords .entry)) (now (indices .entry)) r (now (indices .exit)) ⌝ }
+{
+    let number = refusal(coords, indices.len());
+    if number != 0 {
+        return Answer { number, count: 0 };
+    }
+    let count = cut(coords, coords.len() / 2, indices);
+    if count == 0 {
+        return Answer {
+            number: 7,
+            count: 0,
+        };
+    }
+    Answer { number: 0, count }
+}
