@@ -110,6 +110,13 @@ in-range cs triangles room roomForLengths e₀ =
       fits-lengths = ltb-false roomForLengths (length triangles / 3) t;
     }
 
+pub merger-on-grid : (cs : List Float) (triangles : List ℕ) (room roomForLengths : ℕ) → firstRefusal (mergerChecks cs triangles room roomForLengths) ≡ 0 → offGrid cs ≡ false
+unfolding mergerChecks
+merger-on-grid cs triangles room roomForLengths e₀ =
+    let (odd, e₁) = passes (oddNumber cs) 0 _ e₀ in
+    let (many, e₃) = passes (manyPoints cs) 2 _ e₁ in
+    passes (offGrid cs) 3 _ e₃ .0
+
 -- ---- refusal 7
 
 stuck-is : (c : Cut) → isStuck c ≡ true → c ≡ stuck

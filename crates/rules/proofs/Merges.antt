@@ -123,6 +123,19 @@ merges (suc k) ps a later = go (merges k ps) later (nextJoin ps a later) refl
         let (t, rotated, h) = first-some (join ps later) j (rotations-are a) i in
         joined (join-is ps a later t j rotated h) (rec (j .piece) (j .others))
 
+-- ---- two laws for piece A at the head of the list: A without a join is finished; a join takes A's place
+
+pub merge-next : (ps : List Pt) (a : List ℕ) (later : List (List ℕ)) → nextJoin ps a later ≡ none → merge ps (a ∷ later) ≡ a ∷ merge ps later
+unfolding merge mergeFrom
+merge-next ps a [] e = refl
+merge-next ps a (b ∷ more) e = rw e
+
+pub merge-join :
+    (ps : List Pt) (a : List ℕ) (later : List (List ℕ)) (j : Part) → nextJoin ps a later ≡ some j → suc (length (j .others)) ≡ length later
+    → merge ps (a ∷ later) ≡ merge ps (j .piece ∷ j .others)
+unfolding merge mergeFrom
+merge-join ps a later j e l = rw (← l, e)
+
 -- ---- sums: what a join adds up, the merge keeps
 
 module _ {G : Type 0} (S : Sums G) where

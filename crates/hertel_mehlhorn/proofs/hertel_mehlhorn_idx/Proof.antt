@@ -1,0 +1,34 @@
+-- `hertel_mehlhorn_idx` meets its promise.
+use mathlib.Core.Path.{sym, _∙_}
+use native.Mathlib.Omega.{arith}
+use Rattle.rules.proofs.Accepted.{in-range, merger-on-grid}
+use Rattle.hertel_mehlhorn.proofs.Entry.{refused, merged}
+use borrow.Author.Needs.{needs}
+use Rattle.hertel_mehlhorn.proofs.hertel_mehlhorn_idx.Statement.{statement}
+use Rattle.hertel_mehlhorn.proofs.hertel_mehlhorn_idx.Tie as tie
+
+refusal-requires : tie.Need-refusal-requires
+refusal-requires c κs = search needs
+
+returns : tie.Need-returns
+returns c = refused _ _ _ _ _ (c .before .refusal .ensures) (c .if1 .taken)
+
+merge-requires : tie.Need-merge-requires
+merge-requires c κs = let e = sym (c .before .before .before .refusal .ensures) ∙ c .before .before .if1 .left in let r = in-range _ _ _ _ e in (record { on-grid = merger-on-grid _ _ _ _ e; below = r .below }, ((r .whole, omega (arith, r .whole, r .few)), (r .fits, r .fits-lengths)))
+
+cast-t14 : tie.Need-cast-t14
+cast-t14 c = omega (arith, c .before .before .before .before .merge .ensures .1)
+
+same-length : tie.Need-same-length
+same-length c = search needs
+
+same-length-2 : tie.Need-same-length-2
+same-length-2 c = search needs
+
+returns-2 : tie.Need-returns-2
+returns-2 c = merged _ _ _ _ _ (c .before .before .before .before .before .before .before .before .refusal .ensures) (c .before .before .before .before .before .before .before .if1 .left) _ _ _ (c .before .before .before .before .merge .ensures .0)
+
+pub hertel-mehlhorn-idx-spec : {M : Type 1} → statement M
+hertel-mehlhorn-idx-spec =
+    tie.close
+    (tie.spec refusal-requires returns merge-requires cast-t14 same-length same-length-2 returns-2)

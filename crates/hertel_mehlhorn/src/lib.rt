@@ -1,0 +1,171 @@
+// The merger: after the crate's src/transformation/hertel_mehlhorn.rs.
+// The pieces stand one behind the other in a flat store, with a second list of their lengths.
+mod joining;
+mod ring;
+mod search;
+
+use joining::join_pieces;
+use ring::Ring;
+use ring::wide;
+use ring::write_ring;
+use search::Join;
+use search::next_join;
+ghost use mathlib.Core.Path.{_≡_};
+ghost use Prim.Native.Nat.{_/_, _%_, _≤_};
+ghost use lib.ListN.{length, take, replicate};
+ghost use Rattle.rules.specs.Grid.{pointsOf};
+ghost use Rattle.rules.specs.Layout.{flatten, triples, over};
+ghost use Rattle.rules.specs.Merge.{merge as mergeOf};
+ghost use Rattle.rules.specs.Refusals.{firstRefusal, mergerChecks};
+ghost use Rattle.hertel_mehlhorn.specs.Pieces.{pieces, sum, Known};
+ghost use Rattle.hertel_mehlhorn.specs.Promise.{Written, Promise, anyFrom};
+
+// Document 01's number, and how many pieces were written.
+pub struct Answer {
+    pub number: u32,
+    pub count: u32,
+}
+
+// Writes the pieces one behind the other to `out`, and their lengths to `sizes`.
+fn write_pieces(store: &[u32], lens: &[u32], count: usize, out: &mut [u32], sizes: &mut [u32])
+    requires { ⌜ (count ≤ length (now lens)) × (count ≤ length (now sizes)) ⌝ }
+    requires { ⌜ (sum (take count (now lens)) ≤ length (now store)) × (sum (take count (now lens)) ≤ length (now out)) ⌝ }
+    ensures { λ r. ⌜ now (out .exit) ≡ over (flatten (pieces (now (store .entry)) (now (lens .entry)) 0 count 0)) (now (out .entry)) ⌝ }
+    ensures { λ r. ⌜ now (sizes .exit) ≡ over (take count (now (lens .entry))) (now (sizes .entry)) ⌝ }
+{
+    let mut at = 0;
+    let mut k = 0;
+    while k < count {
+        let size = lens[k];
+        let n = wide(size);
+        let r = Ring {
+            at,
+            len: n,
+            first: 0,
+        };
+        write_ring(store, r, 0, &mut out[at..]);
+        sizes[k] = size;
+        at += n;
+        k += 1;
+    }
+}
+
+fn zeros() -> [u32; 1530]
+    ensures { λ r. ⌜ r ≡ replicate 1530 0 ⌝ }
+{
+    [0u32; 1530]
+}
+
+fn threes() -> [u32; 510]
+    ensures { λ r. ⌜ r ≡ replicate 510 3 ⌝ }
+{
+    [3u32; 510]
+}
+
+// The merge of the given triangles, three indices each: the pieces one behind the other in `indices`, and their lengths in
+// `lengths`. Answers the number of pieces.
+fn merge(coords: &[f32], triangles: &[u32], indices: &mut [u32], lengths: &mut [u32]) -> usize
+    requires { ⌜ Known (now coords) (now triangles) ⌝ }
+    requires { ⌜ (length (now triangles) % 3 ≡ 0) × (length (now triangles) ≤ 1530) ⌝ }
+    requires { ⌜ (length (now triangles) ≤ length (now indices)) × (length (now triangles) / 3 ≤ length (now lengths)) ⌝ }
+    ensures { λ r. ⌜
+        Written (mergeOf (pointsOf (now (coords .entry))) (triples (now (triangles .entry)))) (now (indices .entry)) (now (lengths .entry)) r (now (indices .exit)) (now (lengths .exit))
+        ⌝ }
+    ensures { λ r. ⌜ r ≤ 510 ⌝ }
+{
+    let mut total = triangles.len();
+    let mut count = total / 3;
+    let mut store = zeros();
+    let mut lens = threes();
+    let given = Ring {
+        at: 0,
+        len: total,
+        first: 0,
+    };
+    write_ring(triangles, given, 0, &mut store);
+    let mut a = 0;
+    let mut at = 0;
+    while a < count {
+        match next_join(coords, &store, &lens, count, a, at) {
+            Join::Nowhere => {
+                at += wide(lens[a]);
+                a += 1;
+            }
+            Join::At { own, piece, ring } => {
+                join_pieces(&mut store, &mut lens, count, total, a, own, piece, ring);
+                count -= 1;
+                total -= 2;
+            }
+        }
+    }
+    write_pieces(&store, &lens, count, indices, lengths);
+    count
+}
+
+// Whether an index is not below n.
+fn out_of_range(triangles: &[u32], n: usize) -> bool
+    ensures { λ r. ⌜ r ≡ anyFrom n (now (triangles .entry)) ⌝ }
+{
+    let mut i = 0;
+    while i < triangles.len() {
+        if n <= wide(triangles[i]) {
+            return true;
+        }
+        i += 1;
+    }
+    false
+}
+
+// The number of the first refusal that applies, and 0 where none does: for room for indices and places for lengths.
+fn refusal(coords: &[f32], triangles: &[u32], room: usize, places: usize) -> u32
+    ensures { λ r. ⌜ r ≡ firstRefusal (mergerChecks (now (coords .entry)) (now (triangles .entry)) room places) ⌝ }
+{
+    if coords.len() % 2 == 1 {
+        return 1;
+    }
+    let n = coords.len() / 2;
+    if 512 < n {
+        return 3;
+    }
+    if grid::off_grid(coords) {
+        return 4;
+    }
+    if triangles.len() % 3 != 0 {
+        return 8;
+    }
+    if 510 < triangles.len() / 3 {
+        return 10;
+    }
+    if out_of_range(triangles, n) {
+        return 9;
+    }
+    if room < triangles.len() {
+        return 6;
+    }
+    if places < triangles.len() / 3 {
+        return 6;
+    }
+    0
+}
+
+// Merges triangles into convex pieces where no corner of a join turns right.
+pub fn hertel_mehlhorn_idx(
+    coords: &[f32],
+    triangles: &[u32],
+    indices: &mut [u32],
+    lengths: &mut [u32],
+) -> Answer
+    ensures { λ r. ⌜
+        Promise (now (coords .entry)) (now (triangles .entry)) (now (indices .entry)) (now (lengths .entry)) r (now (indices .exit)) (now (lengths .exit))
+        ⌝ }
+{
+    let number = refusal(coords, triangles, indices.len(), lengths.len());
+    if number != 0 {
+        return Answer { number, count: 0 };
+    }
+    let count = merge(coords, triangles, indices, lengths);
+    Answer {
+        number: 0,
+        count: count as u32,
+    }
+}
