@@ -1,0 +1,232 @@
+// Document 01's cases and the runs beside them, printed for a person to read: each outline cut, the triangles merged, spots asked.
+mod shapes;
+mod show;
+
+use show::ask;
+use show::ask_convex;
+use show::cut;
+use show::cut_large;
+use show::merge;
+use show::merge_large;
+use show::root;
+use show::text;
+
+// K1 to K11: the square P, the arrow Q, a triangle, P backwards.
+fn twelve() {
+    let p = [0.0f32, 0.0, 4.0, 0.0, 4.0, 4.0, 0.0, 4.0];
+    let q = [0.0f32, 0.0, 2.0, 1.0, 4.0, 0.0, 2.0, 4.0];
+    let t = [0.0f32, 0.0, 4.0, 0.0, 0.0, 4.0];
+    let back = [0.0f32, 0.0, 0.0, 4.0, 4.0, 4.0, 4.0, 0.0];
+    let k1 = [2u32, 3, 0, 2, 0, 1];
+    let k3 = [1u32, 2, 3, 3, 0, 1];
+    cut(b"K1  P cut", &p, &mut [9u32; 6]);
+    merge(b"K2  K1 merged", &p, &k1, &mut [9u32; 12], &mut [9u32; 4]);
+    cut(b"K3  Q cut", &q, &mut [9u32; 6]);
+    merge(b"K4  K3 merged", &q, &k3, &mut [9u32; 12], &mut [9u32; 4]);
+    cut(b"K5  a triangle cut", &t, &mut [9u32; 3]);
+    cut(b"K6  P backwards cut", &back, &mut [9u32; 6]);
+    ask(b"K7  P asked at (0,2)", 0.0, 2.0, &p);
+    ask(b"K8  P asked at (4,2)", 4.0, 2.0, &p);
+    ask(b"K9  P asked at (2,0)", 2.0, 0.0, &p);
+    ask(b"K10 P asked at (2,4)", 2.0, 4.0, &p);
+    cut(b"K11 P with five slots", &p, &mut [9u32; 5]);
+    root(b"K12 root of 2 by 2^23", 2);
+}
+
+// The first n of some coordinates, or all where there are fewer.
+fn front(coords: &[f32], n: usize) -> &[f32] {
+    if n <= coords.len() {
+        &coords[..n]
+    } else {
+        coords
+    }
+}
+
+// The limits of the point tests.
+fn spots() {
+    let none = [0.0f32; 0];
+    let one = [1.0f32, 1.0];
+    let two = [0.0f32, 0.0, 2.0, 2.0];
+    let odd = [0.0f32, 0.0, 4.0];
+    let minus_zero = [-0.0f32, -0.0, 4.0, 0.0, 4.0, 4.0, 0.0, 4.0];
+    let off = [0.0f32, 0.0, 1025.0, 0.0, 4.0, 4.0];
+    let half = [0.0f32, 0.0, 0.5, 0.0, 4.0, 4.0];
+    ask(b"no corners", 0.0, 0.0, &none);
+    ask_convex(b"no corners, convex", 0.0, 0.0, &none);
+    ask_convex(b"one corner, convex", 7.0, -9.0, &one);
+    ask_convex(b"two corners, convex, on their line", 9.0, 9.0, &two);
+    ask_convex(b"two corners, convex, off their line", 9.0, 8.0, &two);
+    ask(b"an odd number of coordinates", 0.0, 0.0, &odd);
+    ask(b"minus zero for zero", 0.0, 2.0, &minus_zero);
+    ask(b"asked at minus zero", -0.0, 2.0, &minus_zero);
+    ask(b"a corner at 1025", 1.0, 1.0, &off);
+    ask(b"a corner at a half", 1.0, 1.0, &half);
+    ask(b"asked at 1024", 1024.0, 2.0, &minus_zero);
+    ask(b"asked at 1025", 1025.0, 2.0, &minus_zero);
+    ask(b"asked at no number", 0.0 / 0.0, 2.0, &minus_zero);
+}
+
+// At 512 and 513 corners.
+fn spots_of_many(border: &[f32]) {
+    ask(b"512 corners", 64.0, 64.0, front(border, 1024));
+    ask(b"513 corners", 64.0, 64.0, border);
+    ask_convex(b"512 corners, convex", 64.0, 64.0, front(border, 1024));
+    ask(b"1025 coordinates", 64.0, 64.0, front(border, 1025));
+}
+
+// The limits of the cutter, and its worst shapes.
+fn outlines() {
+    let none = [0.0f32; 0];
+    let straight = [0.0f32, 0.0, 1.0, 0.0, 2.0, 0.0, 3.0, 0.0];
+    let twice = [0.0f32, 0.0, 0.0, 0.0, 4.0, 0.0];
+    let clockwise = [0.0f32, 0.0, 0.0, 4.0, 4.0, 0.0];
+    let still_blocks = [0.0f32, 0.0, 1.0, 0.0, 0.0, 1.0, 2.0, 0.0, 2.0, 2.0];
+    cut(b"no corners", &none, &mut [9u32; 0]);
+    cut(b"four on a line", &straight, &mut [9u32; 6]);
+    cut(b"two equal neighbours and no room", &twice, &mut [9u32; 0]);
+    cut(b"a clockwise triangle", &clockwise, &mut [9u32; 3]);
+    cut(
+        b"a cut point that still blocks",
+        &still_blocks,
+        &mut [9u32; 9],
+    );
+}
+
+// At 512 and 513 corners, and the worst shapes.
+fn outlines_of_many(border: &[f32], comb: &[f32], spiral: &[f32]) {
+    cut_large(b"512 corners round a square", front(border, 1024));
+    cut_large(b"513 corners", border);
+    cut_large(b"1025 coordinates", front(border, 1025));
+    cut_large(b"a comb of 512 corners", comb);
+    cut_large(b"a spiral of 64 corners", spiral);
+}
+
+// The limits of the merger.
+fn triangle_lists() {
+    let p = [0.0f32, 0.0, 4.0, 0.0, 4.0, 4.0, 0.0, 4.0];
+    let none = [0u32; 0];
+    let ragged = [0u32, 1];
+    let far = [0u32, 1, 4];
+    let repeated = [0u32, 0, 0, 1, 1, 1];
+    let moved = [2u32, 3, 0, 2, 0, 1, 2, 3, 0, 1, 2, 3];
+    merge(b"no triangles", &p, &none, &mut [9u32; 12], &mut [9u32; 4]);
+    merge(b"two indices", &p, &ragged, &mut [9u32; 12], &mut [9u32; 4]);
+    merge(
+        b"an index not below the points",
+        &p,
+        &far,
+        &mut [9u32; 12],
+        &mut [9u32; 4],
+    );
+    merge(
+        b"repeated indices",
+        &p,
+        &repeated,
+        &mut [9u32; 12],
+        &mut [9u32; 4],
+    );
+    merge(
+        b"the last piece moves",
+        &p,
+        &moved,
+        &mut [9u32; 12],
+        &mut [9u32; 4],
+    );
+    merge_large(b"510 triangles of one point", &p, &[0u32; 1530]);
+    merge_large(b"511 triangles", &p, &[0u32; 1533]);
+}
+
+// A cover with two bolt ears: 12 corners.
+fn cover() {
+    let cover = [
+        0.0f32,
+        0.0,
+        40.0,
+        0.0,
+        44.0,
+        8.0,
+        52.0,
+        8.0,
+        52.0,
+        16.0,
+        44.0,
+        16.0,
+        40.0,
+        24.0,
+        0.0,
+        24.0,
+        -4.0,
+        16.0,
+        -12.0,
+        16.0,
+        -12.0,
+        8.0,
+        -4.0,
+        8.0,
+    ];
+    cut(b"a cover with two bolt ears, cut", &cover, &mut [9u32; 30]);
+    let cut_cover = [
+        9u32,
+        10,
+        11,
+        8,
+        9,
+        11,
+        3,
+        4,
+        5,
+        2,
+        3,
+        5,
+        6,
+        7,
+        8,
+        6,
+        8,
+        11,
+        6,
+        11,
+        0,
+        6,
+        0,
+        1,
+        5,
+        6,
+        1,
+        5,
+        1,
+        2,
+    ];
+    merge(
+        b"the same, merged",
+        &cover,
+        &cut_cover,
+        &mut [9u32; 30],
+        &mut [9u32; 10],
+    );
+    ask(b"its middle", 20.0, 12.0, &cover);
+    ask(b"the left ear", -8.0, 12.0, &cover);
+    ask(b"beside the left ear", -8.0, 4.0, &cover);
+}
+
+fn many(border: &[f32; 1026], comb: &[f32; 1024], spiral: &[f32; 128]) {
+    text(b"\nMany corners\n");
+    spots_of_many(border);
+    outlines_of_many(border, comb, spiral);
+}
+
+fn main() {
+    text(b"The twelve small cases\n");
+    twelve();
+    text(b"\nSpots\n");
+    spots();
+    text(b"\nOutlines\n");
+    outlines();
+    text(b"\nTriangle lists\n");
+    triangle_lists();
+    many(&shapes::border(), &shapes::comb(), &shapes::spiral());
+    text(b"\nRoots\n");
+    show::roots();
+    text(b"\nA cover\n");
+    cover();
+}
