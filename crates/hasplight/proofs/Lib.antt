@@ -1,0 +1,7 @@
+pub mod Nans
+pub mod Words
+pub mod Cutting
+pub mod Asked
+pub mod Sizes
+pub mod Merging
+pub mod Unique

@@ -1,0 +1,178 @@
+// Hasplight for those who link it: the entries on numbers and byte slices. Each f32, index or length stands as four bytes, low byte
+// first; bytes past the last whole four are neither read nor written.
+pub mod bytes;
+
+use bytes::blank;
+use bytes::float_words;
+use bytes::least;
+use bytes::tripled;
+use bytes::words;
+use bytes::write_words;
+ghost use mathlib.Core.Path.{_≡_};
+ghost use Rattle.hasplight.specs.Promise.{tooMany, longList, cornersOf, CutterPromise, MergerPromise, PointPromise};
+ghost use Prim.Native.Nat.{_≤_};
+ghost use mathlib.Core.Bool.{cond};
+ghost use Rattle.point_in_poly2d.specs.Verdicts.{numberOf, answerOf};
+ghost use Rattle.rules.specs.Crossing.{inside, insideConvex};
+
+// The number of a refusal, and the count of triangles or pieces: 0 beside a refusal.
+#[repr(C)]
+pub struct Answer {
+    pub number: u32,
+    pub count: u32,
+}
+
+// The number of a refusal, and 1 for inside, 0 for outside or refused.
+#[repr(C)]
+pub struct Verdict {
+    pub number: u32,
+    pub answer: u32,
+}
+
+// The refusal of more than 1024 coordinates: an odd number of them, or too many points.
+fn too_many(n: usize) -> u32
+    ensures { λ r. ⌜ r ≡ tooMany n ⌝ }
+{
+    if n % 2 == 1 { 1 } else { 3 }
+}
+
+#[no_mangle]
+pub extern "C" fn hasplight_triangulate_ear_clipping(coords: &[u8], indices: &mut [u8]) -> Answer
+    ensures { λ r. ⌜ CutterPromise (now (coords .entry)) (now (indices .entry)) r (now (indices .exit)) ⌝ }
+{
+    let n = coords.len() / 4;
+    if 1024 < n {
+        return Answer {
+            number: too_many(n),
+            count: 0,
+        };
+    }
+    let floats = float_words(coords);
+    let room = least(indices.len() / 4);
+    let mut words = blank();
+    let a = ear_clipping::triangulate_ear_clipping(&floats[..n], &mut words[..room]);
+    write_words(&words, tripled(a.count), indices);
+    Answer {
+        number: a.number,
+        count: a.count,
+    }
+}
+
+// The refusal of more than 1530 indices for at most 1024 coordinates.
+fn long_list(coords: &[f32], t: usize) -> u32
+    ensures { λ r. ⌜ r ≡ longList (now (coords .entry)) t ⌝ }
+{
+    if coords.len() % 2 == 1 {
+        return 1;
+    }
+    if grid::off_grid(coords) {
+        return 4;
+    }
+    if t % 3 != 0 {
+        return 8;
+    }
+    10
+}
+
+// How many indices a merge of t indices has written: each piece has two corners more than it has triangles.
+fn corners(number: u32, t: usize, count: u32) -> usize
+    requires { ⌜ t ≤ 1530 ⌝ }
+    ensures { λ r. ⌜ r ≡ cornersOf number t count ⌝ }
+{
+    if number != 0 {
+        return 0;
+    }
+    t / 3 + 2 * (count as usize)
+}
+
+#[no_mangle]
+pub extern "C" fn hasplight_hertel_mehlhorn_idx(
+    coords: &[u8],
+    triangles: &[u8],
+    indices: &mut [u8],
+    lengths: &mut [u8],
+) -> Answer
+    ensures { λ r. ⌜
+        MergerPromise (now (coords .entry)) (now (triangles .entry)) (now (indices .entry)) (now (lengths .entry)) r (now (indices .exit)) (now (lengths .exit))
+        ⌝ }
+{
+    let n = coords.len() / 4;
+    if 1024 < n {
+        return Answer {
+            number: too_many(n),
+            count: 0,
+        };
+    }
+    let floats = float_words(coords);
+    let t = triangles.len() / 4;
+    if 1530 < t {
+        return Answer {
+            number: long_list(&floats[..n], t),
+            count: 0,
+        };
+    }
+    let given = words(triangles);
+    let room = least(indices.len() / 4);
+    let places = least(lengths.len() / 4);
+    let mut out = blank();
+    let mut sizes = blank();
+    let a = hertel_mehlhorn::hertel_mehlhorn_idx(
+        &floats[..n],
+        &given[..t],
+        &mut out[..room],
+        &mut sizes[..places],
+    );
+    write_words(&out, corners(a.number, t, a.count), indices);
+    write_words(&sizes, a.count as usize, lengths);
+    Answer {
+        number: a.number,
+        count: a.count,
+    }
+}
+
+// A point test's verdict as two numbers.
+fn told(v: point_in_poly2d::Verdict) -> Verdict
+    ensures { λ r. ⌜ (r .number ≡ numberOf v) × (r .answer ≡ cond (answerOf v) 1 0) ⌝ }
+{
+    match v {
+        point_in_poly2d::Verdict::Refused(number) => Verdict { number, answer: 0 },
+        point_in_poly2d::Verdict::Outside => Verdict {
+            number: 0,
+            answer: 0,
+        },
+        point_in_poly2d::Verdict::Inside => Verdict {
+            number: 0,
+            answer: 1,
+        },
+    }
+}
+
+#[no_mangle]
+pub extern "C" fn hasplight_point_in_poly2d(x: f32, y: f32, coords: &[u8]) -> Verdict
+    ensures { λ r. ⌜ PointPromise inside x y (now (coords .entry)) r ⌝ }
+{
+    let n = coords.len() / 4;
+    if 1024 < n {
+        return Verdict {
+            number: too_many(n),
+            answer: 0,
+        };
+    }
+    let floats = float_words(coords);
+    told(point_in_poly2d::point_in_poly2d(x, y, &floats[..n]))
+}
+
+#[no_mangle]
+pub extern "C" fn hasplight_point_in_convex_poly2d(x: f32, y: f32, coords: &[u8]) -> Verdict
+    ensures { λ r. ⌜ PointPromise insideConvex x y (now (coords .entry)) r ⌝ }
+{
+    let n = coords.len() / 4;
+    if 1024 < n {
+        return Verdict {
+            number: too_many(n),
+            answer: 0,
+        };
+    }
+    let floats = float_words(coords);
+    told(point_in_poly2d::point_in_convex_poly2d(x, y, &floats[..n]))
+}

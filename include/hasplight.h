@@ -1,0 +1,68 @@
+/* Hasplight for C and C++: link target/staticlib/libhasplight.a, which `rt staticlib hasplight` writes.
+ *
+ * Each coordinate (an f32), index or length stands as four bytes, low byte first. A slice is an address, which is not null even
+ * where the slice is empty, and a number of bytes; bytes past the last whole four are neither read nor written. What is lent to
+ * be written must not overlap anything else that is lent in the same call.
+ *
+ * Every input is answered, or refused by a number. A refusal reports 0 beside its number and changes no lent byte. After 0 the
+ * lent bytes past those that are reported keep their contents.
+ *
+ *   1  odd number of coordinates             6  an output buffer too short
+ *   2  fewer than 3 points                   7  a ring of four or more, met while cutting, has no ear
+ *   3  more than 512 points                  8  triangle list not a multiple of three
+ *   4  a coordinate, or the asked point,     9  a triangle index not below the number of points
+ *      is off the grid                      10  more than 510 triangles
+ *   5  two ring neighbours equal
+ */
+#ifndef HASPLIGHT_H
+#define HASPLIGHT_H
+
+#include <stddef.h>
+#include <stdint.h>
+
+#ifdef __cplusplus
+extern "C" {
+#endif
+
+/* count: triangles, or pieces; 0 beside a refusal */
+struct hasplight_answer {
+    uint32_t number;
+    uint32_t count;
+};
+
+/* answer: 1 inside, 0 outside or refused */
+struct hasplight_verdict {
+    uint32_t number;
+    uint32_t answer;
+};
+
+/* Cuts an outline of n corners into n - 2 triangles: three indices each, to the front of `indices`, which has room for 3 (n - 2)
+ * of them. Refuses with 1, 2, 3, 4, 5, 6, 7, in this order. */
+struct hasplight_answer hasplight_triangulate_ear_clipping(
+    const uint8_t *coords, size_t coords_bytes,
+    uint8_t *indices, size_t indices_bytes);
+
+/* Merges m triangles, three indices each, into pieces: their indices one behind the other, to the front of `indices`, which has
+ * room for 3 m of them, and the length of each to the front of `lengths`, which has room for m. Refuses with 1, 3, 4, 8, 10, 9, 6,
+ * in this order. */
+struct hasplight_answer hasplight_hertel_mehlhorn_idx(
+    const uint8_t *coords, size_t coords_bytes,
+    const uint8_t *triangles, size_t triangles_bytes,
+    uint8_t *indices, size_t indices_bytes,
+    uint8_t *lengths, size_t lengths_bytes);
+
+/* Whether (x, y) is inside the outline: whether it crosses an odd number of edges. Refuses with 1, 3, 4, in this order. */
+struct hasplight_verdict hasplight_point_in_poly2d(
+    float x, float y,
+    const uint8_t *coords, size_t coords_bytes);
+
+/* The same for a convex outline, whichever way round it goes; its border is inside. */
+struct hasplight_verdict hasplight_point_in_convex_poly2d(
+    float x, float y,
+    const uint8_t *coords, size_t coords_bytes);
+
+#ifdef __cplusplus
+}
+#endif
+
+#endif

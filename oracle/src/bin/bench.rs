@@ -1,0 +1,87 @@
+//! bench: ours and the crate's on the same inputs in one run; prints a table of times and ratios.
+use oracle::lent::{bytes_of_floats, words};
+use oracle::math::Vector;
+use oracle::shapes::{coords, KINDS};
+use oracle::{ours, parry};
+use std::hint::black_box;
+use std::time::Instant;
+
+/// The least time of one call in nanoseconds, of several rounds of about two milliseconds.
+fn time(mut call: impl FnMut()) -> f64 {
+    let mut calls = 1u32;
+    loop {
+        let begin = Instant::now();
+        (0..calls).for_each(|_| call());
+        if begin.elapsed().as_micros() > 2000 {
+            break;
+        }
+        calls *= 2;
+    }
+    (0..12)
+        .map(|_| {
+            let begin = Instant::now();
+            (0..calls).for_each(|_| call());
+            begin.elapsed().as_nanos() as f64 / calls as f64
+        })
+        .fold(f64::INFINITY, f64::min)
+}
+
+fn row(kind: &str, n: usize, job: &str, ours: f64, theirs: f64) {
+    println!("| {kind} | {n} | {job} | {:.2} | {:.2} | {:.2} |", ours / 1000.0, theirs / 1000.0, ours / theirs);
+}
+
+fn measure(kind: &str, n: usize, outline: &[(i32, i32)]) {
+    let floats = coords(outline);
+    let bytes = bytes_of_floats(&floats);
+    let points: Vec<Vector> = floats.chunks_exact(2).map(|c| Vector { x: c[0], y: c[1] }).collect();
+    let mut indices = vec![0u8; 12 * (n - 2)];
+    let mut lengths = vec![0u8; 4 * (n - 2)];
+    let answer = ours::triangulate_ear_clipping(&bytes, &mut indices);
+    assert_eq!(answer.number, 0, "{kind} of {n} corners is cut");
+    let triangles = indices.clone();
+    let given: Vec<[u32; 3]> = words(&triangles).chunks_exact(3).map(|c| [c[0], c[1], c[2]]).collect();
+    row(
+        kind,
+        n,
+        "cut",
+        time(|| {
+            black_box(ours::triangulate_ear_clipping(black_box(&bytes), &mut indices));
+        }),
+        time(|| {
+            black_box(parry::triangulate_ear_clipping(black_box(&points)));
+        }),
+    );
+    row(
+        kind,
+        n,
+        "merge",
+        time(|| {
+            black_box(ours::hertel_mehlhorn_idx(black_box(&bytes), black_box(&triangles), &mut indices, &mut lengths));
+        }),
+        time(|| {
+            black_box(parry::hertel_mehlhorn_idx(black_box(&points), black_box(&given)));
+        }),
+    );
+    let asked: Vec<(f32, f32)> = (0..16).map(|i| ((i * 61 % 997) as f32 - 498.0, (i * 113 % 991) as f32 - 495.0)).collect();
+    row(
+        kind,
+        n,
+        "point test, 16 points",
+        time(|| asked.iter().for_each(|&(x, y)| {
+            black_box(ours::point_in_poly2d(x, y, black_box(&bytes)));
+        })),
+        time(|| asked.iter().for_each(|&(x, y)| {
+            black_box(parry::point_in_poly2d(Vector { x, y }, black_box(&points)));
+        })),
+    );
+}
+
+fn main() {
+    println!("| outline | corners | job | ours, µs | the crate, µs | ours / the crate |");
+    println!("|---|---:|---|---:|---:|---:|");
+    for (kind, shape) in KINDS {
+        for n in [16, 64, 256, 512] {
+            measure(kind, n, &shape(n));
+        }
+    }
+}

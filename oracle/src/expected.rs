@@ -1,0 +1,112 @@
+//! What must come back: the refusals in document 01's order, and on accepted input what the crate gives.
+use crate::lent::{bytes_of, words};
+use crate::math::Vector;
+use crate::ours::{Answer, Verdict};
+use crate::parry;
+
+fn floats(coords: &[u8]) -> Vec<f32> {
+    words(coords).into_iter().map(f32::from_bits).collect()
+}
+
+fn on_grid(x: f32) -> bool {
+    x.abs() <= 1024.0 && x.trunc() == x
+}
+
+fn points(floats: &[f32]) -> Vec<Vector> {
+    floats.chunks_exact(2).map(|c| Vector { x: c[0], y: c[1] }).collect()
+}
+
+fn refused(number: u32) -> Answer {
+    Answer { number, count: 0 }
+}
+
+fn equal_neighbours(ps: &[Vector]) -> bool {
+    (0..ps.len()).any(|i| ps[i] == ps[(i + 1) % ps.len()])
+}
+
+pub fn triangulate_ear_clipping(coords: &[u8], indices: &mut [u8]) -> Answer {
+    let fs = floats(coords);
+    let ps = points(&fs);
+    if fs.len() % 2 == 1 {
+        return refused(1);
+    }
+    if ps.len() < 3 {
+        return refused(2);
+    }
+    if ps.len() > 512 {
+        return refused(3);
+    }
+    if !fs.iter().all(|&f| on_grid(f)) {
+        return refused(4);
+    }
+    if equal_neighbours(&ps) {
+        return refused(5);
+    }
+    if indices.len() / 4 < 3 * (ps.len() - 2) {
+        return refused(6);
+    }
+    match parry::triangulate_ear_clipping(&ps) {
+        None => refused(7),
+        Some(triangles) => {
+            let written = bytes_of(&triangles.concat());
+            indices[..written.len()].copy_from_slice(&written);
+            Answer { number: 0, count: triangles.len() as u32 }
+        }
+    }
+}
+
+pub fn hertel_mehlhorn_idx(coords: &[u8], triangles: &[u8], indices: &mut [u8], lengths: &mut [u8]) -> Answer {
+    let fs = floats(coords);
+    let ps = points(&fs);
+    let ts = words(triangles);
+    if fs.len() % 2 == 1 {
+        return refused(1);
+    }
+    if ps.len() > 512 {
+        return refused(3);
+    }
+    if !fs.iter().all(|&f| on_grid(f)) {
+        return refused(4);
+    }
+    if ts.len() % 3 != 0 {
+        return refused(8);
+    }
+    if ts.len() / 3 > 510 {
+        return refused(10);
+    }
+    if ts.iter().any(|&i| i as usize >= ps.len()) {
+        return refused(9);
+    }
+    if indices.len() / 4 < ts.len() || lengths.len() / 4 < ts.len() / 3 {
+        return refused(6);
+    }
+    let given: Vec<[u32; 3]> = ts.chunks_exact(3).map(|c| [c[0], c[1], c[2]]).collect();
+    let pieces = parry::hertel_mehlhorn_idx(&ps, &given);
+    let written = bytes_of(&pieces.concat());
+    indices[..written.len()].copy_from_slice(&written);
+    let sizes: Vec<u32> = pieces.iter().map(|p| p.len() as u32).collect();
+    lengths[..4 * sizes.len()].copy_from_slice(&bytes_of(&sizes));
+    Answer { number: 0, count: pieces.len() as u32 }
+}
+
+fn asked(x: f32, y: f32, coords: &[u8], test: fn(Vector, &[Vector]) -> bool) -> Verdict {
+    let fs = floats(coords);
+    if fs.len() % 2 == 1 {
+        return Verdict { number: 1, answer: 0 };
+    }
+    if fs.len() / 2 > 512 {
+        return Verdict { number: 3, answer: 0 };
+    }
+    if !on_grid(x) || !on_grid(y) || !fs.iter().all(|&f| on_grid(f)) {
+        return Verdict { number: 4, answer: 0 };
+    }
+    Verdict { number: 0, answer: test(Vector { x, y }, &points(&fs)) as u32 }
+}
+
+pub fn point_in_poly2d(x: f32, y: f32, coords: &[u8]) -> Verdict {
+    asked(x, y, coords, parry::point_in_poly2d)
+}
+
+pub fn point_in_convex_poly2d(x: f32, y: f32, coords: &[u8]) -> Verdict {
+    asked(x, y, coords, parry::point_in_convex_poly2d)
+}

@@ -1,0 +1,60 @@
+//! Outlines on the grid, counter-clockwise, by their number of corners.
+use std::f64::consts::TAU;
+
+pub type Outline = Vec<(i32, i32)>;
+
+pub const KINDS: [(&str, fn(usize) -> Outline); 5] =
+    [("convex", convex), ("star", star), ("comb", comb), ("spiral", spiral), ("cover", cover)];
+
+pub fn coords(outline: &[(i32, i32)]) -> Vec<f32> {
+    outline.iter().flat_map(|&(x, y)| [x as f32, y as f32]).collect()
+}
+
+fn polar(n: usize, radius: impl Fn(usize, f64) -> f64) -> Outline {
+    (0..n)
+        .map(|i| {
+            let angle = TAU * i as f64 / n as f64;
+            let r = radius(i, angle);
+            ((r * angle.cos()).round() as i32, (r * angle.sin()).round() as i32)
+        })
+        .collect()
+}
+
+pub fn convex(n: usize) -> Outline {
+    polar(n, |_, _| 1000.0)
+}
+
+pub fn star(n: usize) -> Outline {
+    polar(n, |i, _| if i % 2 == 0 { 1000.0 } else { 700.0 })
+}
+
+/// Two corners below, and teeth from the right to the left.
+pub fn comb(n: usize) -> Outline {
+    let mut outline = vec![(-1020, -1020), (1020, -1020)];
+    let teeth = n as i32 - 2;
+    outline.extend((0..teeth).map(|i| (1020 - 2040 * i / (teeth - 1), if i % 2 == 0 { 900 } else { -900 })));
+    outline
+}
+
+/// Out along one arm and back beside it, in as many turns as the corners allow, at most two and a half.
+pub fn spiral(n: usize) -> Outline {
+    let half = n / 2;
+    let turns = (half as f64 / 12.0).min(2.5);
+    let arm = |i: usize, shift: f64| {
+        let angle = turns * TAU * i as f64 / half as f64;
+        let r = 200.0 + 300.0 * angle / TAU - shift;
+        ((r * angle.cos()).round() as i32, (r * angle.sin()).round() as i32)
+    };
+    let mut outline: Outline = (0..half).map(|i| arm(i, 0.0)).collect();
+    outline.extend((0..n - half).rev().map(|i| arm(i, 120.0)));
+    outline
+}
+
+/// A cover like a gasket's: a rectangle with round corners, and an ear at each of eight bolts.
+pub fn cover(n: usize) -> Outline {
+    polar(n, |_, angle| {
+        let side = 1.0 / (angle.cos().abs() / 850.0).max(angle.sin().abs() / 550.0);
+        let from_bolt = (angle / TAU * 8.0 + 0.5).fract() - 0.5;
+        side.min(900.0) + 90.0 * (1.0 - (from_bolt * 5.0).powi(2)).max(0.0)
+    })
+}

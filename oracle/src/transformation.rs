@@ -1,0 +1,5 @@
+#[path = "../../../shared/docs/src/src/transformation/ear_clipping.rs"]
+pub mod ear_clipping;
+#[path = "../../../shared/docs/src/src/transformation/hertel_mehlhorn.rs"]
+#[allow(dead_code)]
+pub mod hertel_mehlhorn;
