@@ -4,7 +4,7 @@ pub mod point_in_triangle;
 
 use point::Point;
 ghost use mathlib.Core.Path.{_≡_};
-ghost use mathlib.Core.Bool.{true, false};
+ghost use mathlib.Core.Bool.{true, false, _||_};
 ghost use Prim.Native.Nat.{_+_, _*_, _<_};
 ghost use lib.ListN.{length};
 ghost use Rattle.rules.specs.Grid.{onGrid, pointsOf};
@@ -24,18 +24,23 @@ pub fn on_grid(x: f32) -> bool
     false
 }
 
-// Whether a coordinate is off the grid.
+fn either(s: bool, t: bool) -> bool
+    ensures { λ r. ⌜ r ≡ (s || t) ⌝ }
+{
+    if s { true } else { t }
+}
+
+// Whether a coordinate is off the grid. All are looked at, with no early end, so that several can be looked at at once.
 pub fn off_grid(coords: &[f32]) -> bool
     ensures { λ r. ⌜ r ≡ offGrid (now (coords .entry)) ⌝ }
 {
+    let mut off = false;
     let mut i = 0;
     while i < coords.len() {
-        if !on_grid(coords[i]) {
-            return true;
-        }
+        off = either(off, !on_grid(coords[i]));
         i += 1;
     }
-    false
+    off
 }
 
 // Point number i of coordinates that are x and y in turn, all on the grid.

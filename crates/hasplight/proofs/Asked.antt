@@ -1,33 +1,26 @@
 -- The point tests' promise over the bytes.
-use Prim.Native.Nat.{ℕ, suc, _/_, _%_, _<_}
-use mathlib.Core.Path.{_≡_, refl, sym, _∙_, ap}
-use mathlib.Core.Bool.{Bool, true, false, cond}
+use Prim.Native.Nat.{ℕ, suc, _/_, _<_}
+use mathlib.Core.Path.{_≡_, sym, _∙_, ap}
+use mathlib.Core.Bool.{Bool, false, cond}
 use mathlib.Core.List.{List}
-use native.Mathlib.Omega.{arith}
-use borrow.Author.Tests.{eqb-true, eqb-false}
-use lib.Dec.{eqb}
 use lib.ListN.{length, take}
 use lib.Ieee.{Float}
 use Rattle.rules.specs.Plane.{Pt}
 use Rattle.rules.specs.Refusals.{firstRefusal, pointTestChecks}
 use Rattle.rules.specs.Entries.{Asking, asking}
-use Rattle.rules.proofs.Rows.{row-on, row-off}
-use Rattle.rules.proofs.Coordinates.{odd-on, odd-off, many-on}
+use Rattle.rules.proofs.Rows.{row-on}
+use Rattle.rules.proofs.Coordinates.{many-on}
 use Rattle.point_in_poly2d.specs.Verdicts.{numberOf, answerOf, verdict}
 use Rattle.point_in_poly2d.specs.declared.Verdict as Inner
 use Rattle.point_in_poly2d.proofs.Asked.{verdict-number, verdict-answer}
 use Rattle.hasplight.specs.Bytes.{floatsOf}
 use Rattle.hasplight.specs.Promise.{tooMany, PointPromise}
 use Rattle.hasplight.specs.declared.Verdict.{Verdict}
-use Rattle.hasplight.proofs.Words.{floats-length, many-refused}
+use Rattle.hasplight.proofs.Words.{floats-length, many-number, many-refused}
 
-many-number : (x y : Float) (cs : List Float) (n : ℕ) → n ≡ length cs → 1024 < n → firstRefusal (pointTestChecks x y cs) ≡ tooMany n
+many-refusal : (x y : Float) (cs : List Float) (n : ℕ) → n ≡ length cs → 1024 < n → firstRefusal (pointTestChecks x y cs) ≡ tooMany n
 unfolding pointTestChecks
-many-number x y cs n l h = go (eqb (n % 2) 1) refl
-  where
-    go : (t : Bool) → eqb (n % 2) 1 ≡ t → firstRefusal (pointTestChecks x y cs) ≡ cond t 1 3
-    go true e = row-on 1 _ (odd-on cs (rw (← l) (eqb-true (n % 2) 1 e)))
-    go false e = row-off 1 _ (odd-off cs (rw (← l) (eqb-false (n % 2) 1 e))) ∙ row-on 3 _ (many-on cs (omega (arith, eqb-false (n % 2) 1 e)))
+many-refusal x y cs n l h = many-number cs _ n l h (λ k. row-on 3 _ (many-on cs k))
 
 module _ (test : Pt → List Pt → Bool) (x y : Float) (coords : List ℕ) where
   by-number : (n : ℕ) → firstRefusal (pointTestChecks x y (floatsOf coords)) ≡ suc n → asking test x y (floatsOf coords) ≡ record { number = suc n; answer = false }
@@ -37,7 +30,7 @@ module _ (test : Pt → List Pt → Bool) (x y : Float) (coords : List ℕ) wher
   pub many-asked : (n t : ℕ) → n ≡ length coords / 4 → 1024 < n → t ≡ tooMany n → PointPromise test x y coords (record { number = t; answer = 0 })
   many-asked n t l h e =
       let k = many-refused n in
-      let is = by-number (k .0) (many-number x y (floatsOf coords) n (l ∙ sym (floats-length coords)) h ∙ k .1) in
+      let is = by-number (k .0) (many-refusal x y (floatsOf coords) n (l ∙ sym (floats-length coords)) h ∙ k .1) in
       record { number = e ∙ k .1 ∙ sym (ap (λ (r : Asking). r .number) is); answer = sym (ap (λ (r : Asking). cond (r .answer) 1 0) is) }
 
   pub asked-kept : (v : Inner.Verdict) (r : Verdict) {n : ℕ} (fs : List Float) → n ≡ length coords / 4 → take n fs ≡ floatsOf coords → v ≡ verdict (asking test x y (take n fs))

@@ -1,11 +1,10 @@
 -- The cutter's answer by the room alone: what it reports does not depend on what the lent words held, nor on room past 1530.
-use Prim.Native.Nat.{ℕ, zero, suc, _*_, _-_, _/_, _%_, _≤_, _<_}
+use Prim.Native.Nat.{ℕ, zero, suc, _*_, _-_, _/_, _≤_, _<_}
 use mathlib.Core.Path.{_≡_, refl, sym, _∙_, ap, subst}
-use mathlib.Core.Bool.{Bool, true, false, cond}
 use mathlib.Core.List.{List, [], _++_}
 use native.Mathlib.Omega.{arith}
-use borrow.Author.Tests.{le-ltb, eqb-true, eqb-false}
-use lib.Dec.{ltb, eqb}
+use borrow.Author.Tests.{le-ltb}
+use lib.Dec.{ltb}
 use lib.ListN.{length, take, drop, length-map, length-append, length-drop}
 use lib.Seq.{take-append-le, length-take-le}
 use lib.Ieee.{Float}
@@ -16,7 +15,7 @@ use Rattle.rules.specs.Refusals.{firstRefusal, cutterChecks}
 use Rattle.rules.specs.Entries.{Cutting, unless, trianglesOf, trianglesFor, cutter}
 use Rattle.rules.specs.Cut.{cut}
 use Rattle.rules.proofs.Rows.{row-on, row-off}
-use Rattle.rules.proofs.Coordinates.{points-length, odd-on, odd-off, many-on}
+use Rattle.rules.proofs.Coordinates.{points-length, many-on}
 use Rattle.rules.proofs.Layouts.{take-over, triangles-length}
 use Rattle.rules.proofs.Results.{cut-result}
 use Rattle.ear_clipping.specs.Promise.{Promise}
@@ -24,7 +23,7 @@ use Rattle.ear_clipping.specs.declared.Answer as Inner
 use Rattle.hasplight.specs.Bytes.{leastOf, wordsOf, floatsOf, bytesOf}
 use Rattle.hasplight.specs.Promise.{tooMany, CutterPromise}
 use Rattle.hasplight.specs.declared.Answer.{Answer}
-use Rattle.hasplight.proofs.Words.{words-length, floats-length, write-first, many-refused, least-below, least-within, least-room}
+use Rattle.hasplight.proofs.Words.{words-length, floats-length, write-first, many-number, many-refused, least-below, least-within, least-room}
 
 -- ---- what is reported, by the number of the refusal
 
@@ -115,16 +114,10 @@ module _ (cs : List Float) where
 -- ---- the promise over the bytes
 
 -- more than 1024 coordinates are refused
-many-number : (cs : List Float) (room n : ℕ) → n ≡ length cs → 1024 < n → firstRefusal (cutterChecks cs room) ≡ tooMany n
+many-refusal : (cs : List Float) (room n : ℕ) → n ≡ length cs → 1024 < n → firstRefusal (cutterChecks cs room) ≡ tooMany n
 unfolding cutterChecks
-many-number cs room n l h = go (eqb (n % 2) 1) refl
-  where
-    go : (t : Bool) → eqb (n % 2) 1 ≡ t → firstRefusal (cutterChecks cs room) ≡ cond t 1 3
-    go true e = row-on 1 _ (odd-on cs (rw (← l) (eqb-true (n % 2) 1 e)))
-    go false e =
-        row-off 1 _ (odd-off cs (rw (← l) (eqb-false (n % 2) 1 e)))
-        ∙ row-off 2 _ (le-ltb (length (pointsOf cs)) 3 (omega (arith, points-length cs)))
-        ∙ row-on 3 _ (many-on cs (omega (arith, eqb-false (n % 2) 1 e)))
+many-refusal cs room n l h =
+    many-number cs _ n l h (λ k. row-off 2 _ (le-ltb (length (pointsOf cs)) 3 (omega (arith, points-length cs))) ∙ row-on 3 _ (many-on cs k))
 
 module _ (coords indices : List ℕ) where
   abbrev cs : List Float
@@ -135,7 +128,7 @@ module _ (coords indices : List ℕ) where
 
   pub refused-many : (n t : ℕ) → n ≡ length coords / 4 → 1024 < n → t ≡ tooMany n → CutterPromise coords indices (record { number = t; count = 0 }) indices
   refused-many n t l h e =
-      let many : number cs W ≡ tooMany n = many-number cs (length W) n (l ∙ sym (floats-length coords)) h in
+      let many : number cs W ≡ tooMany n = many-refusal cs (length W) n (l ∙ sym (floats-length coords)) h in
       let k = many-refused n in
       let is : cutter cs W ≡ answer-of cs (tooMany n) W = cutter-is cs W ∙ ap (λ (m : ℕ). answer-of cs m W) many in
       let none : cutter cs W .count ≡ 0 = ap (λ (r : Cutting). r .count) is ∙ count-is cs (tooMany n) W ∙ ap (counted cs) (k .1) ∙ nothing cs (k .0) in

@@ -4,7 +4,7 @@ use mathlib.Core.Path.{_≡_, refl, sym, _∙_, ap, subst}
 use mathlib.Core.Bool.{Bool, true, false, cond, not}
 use mathlib.Core.List.{List, [], _++_, map, append-assoc}
 use native.Mathlib.Omega.{arith}
-use borrow.Author.Tests.{lt-ltb, eqb-true, eqb-false}
+use borrow.Author.Tests.{lt-ltb, eqb-true}
 use lib.Dec.{ltb, eqb}
 use lib.ListN.{length, take, drop, length-map, length-append, length-drop}
 use lib.Seq.{length-take-le, take-append-seam}
@@ -15,7 +15,7 @@ use Rattle.rules.specs.Layout.{flatten, split, triples, over}
 use Rattle.rules.specs.Refusals.{oddNumber, offGrid, firstRefusal, mergerChecks}
 use Rattle.rules.specs.Entries.{Merging, unless, merger, writtenPieces}
 use Rattle.rules.proofs.Rows.{row-on, row-off}
-use Rattle.rules.proofs.Coordinates.{odd-on, odd-off, many-on, many-off}
+use Rattle.rules.proofs.Coordinates.{many-on, many-off}
 use Rattle.rules.proofs.Layouts.{take-over, pieces-back}
 use Rattle.rules.proofs.Accepted.{in-range}
 use Rattle.hertel_mehlhorn.specs.Promise.{Promise}
@@ -23,7 +23,7 @@ use Rattle.hertel_mehlhorn.specs.declared.Answer as Inner
 use Rattle.hasplight.specs.Bytes.{leastOf, wordsOf, floatsOf, bytesOf}
 use Rattle.hasplight.specs.Promise.{tooMany, longList, cornersOf, MergerPromise}
 use Rattle.hasplight.specs.declared.Answer.{Answer}
-use Rattle.hasplight.proofs.Words.{words-length, floats-length, many-refused, least-below, least-within, least-room}
+use Rattle.hasplight.proofs.Words.{words-length, floats-length, many-number, many-refused, least-below, least-within, least-room}
 use Rattle.hasplight.proofs.Sizes.{merged-corners, merged-count}
 
 -- ---- what is reported, by the number of the refusal
@@ -113,13 +113,9 @@ module _ (cs : List Float) (tri : List ℕ) (room places : ℕ) where
   rows = firstRefusal (mergerChecks cs tri room places)
 
   -- more than 1024 coordinates
-  many-number : (n : ℕ) → n ≡ length cs → 1024 < n → rows ≡ tooMany n
+  many-refusal : (n : ℕ) → n ≡ length cs → 1024 < n → rows ≡ tooMany n
   unfolding mergerChecks
-  many-number n l h = go (eqb (n % 2) 1) refl
-    where
-      go : (t : Bool) → eqb (n % 2) 1 ≡ t → rows ≡ cond t 1 3
-      go true e = row-on 1 _ (odd-on cs (rw (← l) (eqb-true (n % 2) 1 e)))
-      go false e = row-off 1 _ (odd-off cs (rw (← l) (eqb-false (n % 2) 1 e))) ∙ row-on 3 _ (many-on cs (omega (arith, eqb-false (n % 2) 1 e)))
+  many-refusal n l h = many-number cs _ n l h (λ k. row-on 3 _ (many-on cs k))
 
   -- at most 1024, and more than 1530 indices
   long-number : (t : ℕ) → length cs ≤ 1024 → t ≡ length tri → 1530 < t → rows ≡ longList cs t
@@ -180,7 +176,7 @@ module _ (coords triangles indices lengths : List ℕ) where
   pub refused-many : (n t : ℕ) → n ≡ length coords / 4 → 1024 < n → t ≡ tooMany n → MergerPromise coords triangles indices lengths (record { number = t; count = 0 }) indices lengths
   refused-many n t l h e =
       let k = many-refused n in
-      refused t (k .0) (e ∙ sym (many-number cs tri (length (wordsOf indices)) (length (wordsOf lengths)) n (l ∙ sym (floats-length coords)) h)) (e ∙ k .1)
+      refused t (k .0) (e ∙ sym (many-refusal cs tri (length (wordsOf indices)) (length (wordsOf lengths)) n (l ∙ sym (floats-length coords)) h)) (e ∙ k .1)
 
   pub refused-long :
       (fs : List Float) (n t r : ℕ) → n ≡ length coords / 4 → n ≤ 1024 → take n fs ≡ cs → t ≡ length triangles / 4 → 1530 < t → r ≡ longList (take n fs) t

@@ -9,8 +9,11 @@ use native.Mathlib.Omega.{arith}
 use lib.ListN.{length, getD, set, take, drop, length-append, length-map, length-set}
 use lib.Seq.{take-suc, take-suc-set, drop-cons, set-at, length-take-le, take-all}
 use lib.Ieee.{Float, nan, binary32, ofBits}
-use borrow.Author.Tests.{lt-ltb, le-ltb, eq-eqb, ne-eqb, ltb-true, ltb-false}
+use borrow.Author.Tests.{lt-ltb, le-ltb, eq-eqb, ne-eqb, ltb-true, ltb-false, eqb-true, eqb-false}
 use Rattle.rules.specs.Layout.{over}
+use Rattle.rules.specs.Refusals.{Row, _gives_, oddNumber, firstRefusal}
+use Rattle.rules.proofs.Rows.{row-on, row-off}
+use Rattle.rules.proofs.Coordinates.{odd-on, odd-off}
 use Rattle.hasplight.specs.Bytes.{wordsOf, floatsOf, bytesOf, wordAt, put4, leastOf}
 use Rattle.hasplight.specs.Promise.{tooMany}
 
@@ -178,3 +181,12 @@ least-room k x h = go (ltb k 1530) refl
     go : (t : Bool) → ltb k 1530 ≡ t → ltb (cond t k 1530) x ≡ ltb k x
     go true e = refl
     go false e = let l = ltb-false k 1530 e in le-ltb 1530 x h ∙ sym (le-ltb k x (omega arith))
+
+-- more than 1024 coordinates are refused: with 1, or by the rows that follow with 3
+pub many-number :
+    (cs : List Float) (rows : List Row) (n : ℕ) → n ≡ length cs → 1024 < n → (512 < length cs / 2 → firstRefusal rows ≡ 3) → firstRefusal (oddNumber cs gives 1 ∷ rows) ≡ tooMany n
+many-number cs rows n l h three = go (eqb (n % 2) 1) refl
+  where
+    go : (t : Bool) → eqb (n % 2) 1 ≡ t → firstRefusal (oddNumber cs gives 1 ∷ rows) ≡ cond t 1 3
+    go true e = row-on 1 rows (odd-on cs (rw (← l) (eqb-true (n % 2) 1 e)))
+    go false e = row-off 1 rows (odd-off cs (rw (← l) (eqb-false (n % 2) 1 e))) ∙ three (omega (arith, eqb-false (n % 2) 1 e))

@@ -42,10 +42,8 @@ pub extern "C" fn hasplight_triangulate_ear_clipping(coords: &[u8], indices: &mu
 {
     let n = coords.len() / 4;
     if 1024 < n {
-        return Answer {
-            number: too_many(n),
-            count: 0,
-        };
+        let number = too_many(n);
+        return Answer { number, count: 0 };
     }
     let floats = float_words(coords);
     let room = least(indices.len() / 4);
@@ -98,18 +96,14 @@ pub extern "C" fn hasplight_hertel_mehlhorn_idx(
 {
     let n = coords.len() / 4;
     if 1024 < n {
-        return Answer {
-            number: too_many(n),
-            count: 0,
-        };
+        let number = too_many(n);
+        return Answer { number, count: 0 };
     }
     let floats = float_words(coords);
     let t = triangles.len() / 4;
     if 1530 < t {
-        return Answer {
-            number: long_list(&floats[..n], t),
-            count: 0,
-        };
+        let number = long_list(&floats[..n], t);
+        return Answer { number, count: 0 };
     }
     let given = words(triangles);
     let room = least(indices.len() / 4);
@@ -153,10 +147,8 @@ pub extern "C" fn hasplight_point_in_poly2d(x: f32, y: f32, coords: &[u8]) -> Ve
 {
     let n = coords.len() / 4;
     if 1024 < n {
-        return Verdict {
-            number: too_many(n),
-            answer: 0,
-        };
+        let number = too_many(n);
+        return Verdict { number, answer: 0 };
     }
     let floats = float_words(coords);
     told(point_in_poly2d::point_in_poly2d(x, y, &floats[..n]))
@@ -168,10 +160,8 @@ pub extern "C" fn hasplight_point_in_convex_poly2d(x: f32, y: f32, coords: &[u8]
 {
     let n = coords.len() / 4;
     if 1024 < n {
-        return Verdict {
-            number: too_many(n),
-            answer: 0,
-        };
+        let number = too_many(n);
+        return Verdict { number, answer: 0 };
     }
     let floats = float_words(coords);
     told(point_in_poly2d::point_in_convex_poly2d(x, y, &floats[..n]))

@@ -1,36 +1,44 @@
--- `off_grid` meets its contract. The invariant: what the whole slice is, is what its part from i on is.
-use mathlib.Core.Path.{_≡_, sym, _∙_}
-use mathlib.Core.List.{List}
-use mathlib.Core.Bool.{true, false}
+-- `off_grid` meets its contract. The invariant: the whole slice is off the grid where a coordinate before i is, or the part from i on.
 use Prim.Native.Nat.{ℕ, _+_, _-_, _≤_, _<_}
+use mathlib.Core.Path.{_≡_, refl, sym, _∙_, ap}
+use mathlib.Core.Bool.{Bool, true, false, not, _||_}
+use mathlib.Core.List.{List}
 use native.Mathlib.Numerals.{add-one}
 use lib.ListN.{length, getD, drop, drop-of-length-le}
 use lib.Seq.{drop-cons}
 use lib.Ieee.{Float, nan}
 use borrow.Author.Needs.{needs}
-use borrow.Author.Tests.{not-true, not-false}
 use Rattle.rules.specs.Grid.{onGrid}
 use Rattle.rules.specs.Refusals.{offGrid}
 use Rattle.grid.proofs.off_grid.Statement.{statement}
 use Rattle.grid.proofs.off_grid.Tie as tie
 
-on : (cs : List Float) (i : ℕ) → i < length cs → onGrid (getD cs i nan) ≡ true → offGrid (drop i cs) ≡ offGrid (drop (i + 1) cs)
-unfolding offGrid
-on cs i h e = rw (add-one, drop-cons cs i nan h, e)
+assoc : (a b d : Bool) → (a || (b || d)) ≡ ((a || b) || d)
+assoc true b d = refl
+assoc false b d = refl
 
-off : (cs : List Float) (i : ℕ) → i < length cs → onGrid (getD cs i nan) ≡ false → offGrid (drop i cs) ≡ true
-unfolding offGrid
-off cs i h e = rw (drop-cons cs i nan h, e)
+or-none : (a : Bool) → (a || false) ≡ a
+or-none true = refl
+or-none false = refl
 
-at-end : (cs : List Float) (i : ℕ) → length cs ≤ i → offGrid (drop i cs) ≡ false
+part : (cs : List Float) (i : ℕ) → i < length cs → offGrid (drop i cs) ≡ (not (onGrid (getD cs i nan)) || offGrid (drop (i + 1) cs))
 unfolding offGrid
-at-end cs i h = rw (drop-of-length-le cs h)
+part cs i h = rw (add-one, drop-cons cs i nan h)
+
+more :
+    (cs : List Float) (i : ℕ) → i < length cs → (off on off' : Bool) → on ≡ onGrid (getD cs i nan) → off' ≡ (off || not on)
+    → (off || offGrid (drop i cs)) ≡ (off' || offGrid (drop (i + 1) cs))
+more cs i h off on off' e f = rw (part cs i h, f, e) (assoc off (not (onGrid (getD cs i nan))) (offGrid (drop (i + 1) cs)))
+
+at-end : (cs : List Float) (i : ℕ) → length cs ≤ i → (off : Bool) → (off || offGrid (drop i cs)) ≡ off
+unfolding offGrid
+at-end cs i h off = rw (drop-of-length-le cs h) (or-none off)
 
 abbrev Inv-loop : tie.InvT-loop
-Inv-loop coords i₀ i = (i ≤ length coords) × (offGrid coords ≡ offGrid (drop i coords))
+Inv-loop coords off₀ i₀ off i = (i ≤ length coords) × (offGrid coords ≡ (off || offGrid (drop i coords)))
 
 abbrev μ-loop : tie.MeasureT-loop
-μ-loop coords i₀ i = length coords - i
+μ-loop coords off₀ i₀ off i = length coords - i
 
 loop-holds : tie.Need-loop-holds Inv-loop μ-loop
 loop-holds c = search needs
@@ -44,10 +52,8 @@ shared-slice-read-on-grid c = search needs
 on-grid-requires : tie.Need-on-grid-requires Inv-loop μ-loop
 on-grid-requires c κs = search needs
 
-returns : tie.Need-returns Inv-loop μ-loop
-returns c =
-    let t = c .before .before .before in
-    sym (t .before .loop .inv .1 ∙ off _ _ (t .loop-test .taken) (sym (c .before .on-grid .ensures) ∙ not-true _ (c .if1 .taken)))
+either-requires : tie.Need-either-requires Inv-loop μ-loop
+either-requires c κs = search needs
 
 add-i : tie.Need-add-i Inv-loop μ-loop
 add-i c = search needs
@@ -58,10 +64,10 @@ loop-less c = search needs
 loop-again : tie.Need-loop-again Inv-loop μ-loop
 loop-again c =
     let t = c .before .before .before in
-    (search needs, t .before .loop .inv .1 ∙ on _ _ (t .loop-test .taken) (sym (c .before .on-grid .ensures) ∙ not-false _ (c .if1 .left)))
+    (search needs, t .before .loop .inv .1 ∙ more _ _ (t .loop-test .taken) (t .before .loop .off) _ _ (c .before .on-grid .ensures) (c .either .ensures))
 
-returns-2 : tie.Need-returns-2 Inv-loop μ-loop
-returns-2 c = sym (c .before .loop .inv .1 ∙ at-end _ _ (c .loop-test .left))
+returns : tie.Need-returns Inv-loop μ-loop
+returns c = sym (c .before .loop .inv .1 ∙ at-end _ _ (c .loop-test .left) (c .before .loop .off))
 
 pub off-grid-spec : {M : Type 1} → statement M
 off-grid-spec =
@@ -73,8 +79,8 @@ off-grid-spec =
     mul-on-grid
     shared-slice-read-on-grid
     on-grid-requires
-    returns
+    either-requires
     add-i
     loop-less
     loop-again
-    returns-2)
+    returns)
