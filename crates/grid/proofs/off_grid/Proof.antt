@@ -1,6 +1,6 @@
 -- `off_grid` meets its contract. The invariant: the whole slice is off the grid where a coordinate before i is, or the part from i on.
 use Prim.Native.Nat.{ℕ, _+_, _-_, _≤_, _<_}
-use mathlib.Core.Path.{_≡_, refl, sym, _∙_, ap}
+use mathlib.Core.Path.{_≡_, refl, sym, _∙_}
 use mathlib.Core.Bool.{Bool, true, false, not, _||_}
 use mathlib.Core.List.{List}
 use native.Mathlib.Numerals.{add-one}
