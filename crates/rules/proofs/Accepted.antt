@@ -19,7 +19,7 @@ use Rattle.rules.specs.Ear.{point}
 use Rattle.rules.specs.Cut.{Cut, stuck, done, cut}
 use Rattle.rules.specs.Measure.{points, Apart}
 use Rattle.rules.specs.Refusals.{_gives_, firstRefusal, oddNumber, fewPoints, manyPoints, offGrid, same, equalNeighbours, isStuck, noEar, outOfRange, cutterChecks, beforeCutting, mergerChecks}
-use Rattle.rules.proofs.Rows.{passes, skips, applies, row-off, row-on, front-gives}
+use Rattle.rules.proofs.Rows.{passes, skips, applies, row-off, row-on, front-gives, front-none}
 use Rattle.rules.proofs.Outline.{all-points}
 use Rattle.rules.proofs.Stuck.{NoEarLeft, stuck→no-ear, no-ear→stuck}
 
@@ -44,6 +44,34 @@ module _ (ps : List Pt) where
   apart [] h = end
   apart (a ∷ l) h = steps-apart a l a h
 
+-- what the rows before 7 leave where none of them applies
+pub record Ready (cs : List Float) (room : ℕ) : Type 0 where
+  pub on-grid : offGrid cs ≡ false
+  pub three : 3 ≤ length (pointsOf cs)
+  pub at-most : length (pointsOf cs) ≤ 512
+  pub no-equals : equalNeighbours (pointsOf cs) ≡ false
+  pub fits : 3 * (length (pointsOf cs) - 2) ≤ room
+  pub last-row : firstRefusal (cutterChecks cs room) ≡ firstRefusal (noEar (pointsOf cs) gives 7 ∷ [])
+
+pub ready : (cs : List Float) (room : ℕ) → firstRefusal (beforeCutting cs room) ≡ 0 → Ready cs room
+unfolding cutterChecks
+ready cs room e₀ =
+    let ps = pointsOf cs in
+    let (odd, e₁) = passes (oddNumber cs) 0 _ e₀ in
+    let (few, e₂) = passes (fewPoints cs) 1 _ e₁ in
+    let (many, e₃) = passes (manyPoints cs) 2 _ e₂ in
+    let (off, e₄) = passes (offGrid cs) 3 _ e₃ in
+    let (equal, e₅) = passes (equalNeighbours ps) 4 _ e₄ in
+    let (short, e₆) = passes (ltb room (3 * (length ps - 2))) 5 _ e₅ in
+    record {
+      on-grid = off;
+      three = ltb-false (length ps) 3 few;
+      at-most = ltb-false 512 (length ps) many;
+      no-equals = equal;
+      fits = ltb-false room (3 * (length ps - 2)) short;
+      last-row = row-off 1 _ odd ∙ row-off 2 _ few ∙ row-off 3 _ many ∙ row-off 4 _ off ∙ row-off 5 _ equal ∙ row-off 6 _ short;
+    }
+
 -- ---- the theorem
 
 pub record Accepted (ps : List Pt) (room : ℕ) : Type 0 where
@@ -60,21 +88,16 @@ not-stuck (done ts) h = (ts, refl)
 
 pub accepted : (cs : List Float) (room : ℕ) → firstRefusal (cutterChecks cs room) ≡ 0 → Accepted (pointsOf cs) room
 unfolding cutterChecks equalNeighbours noEar
-accepted cs room e₀ =
+accepted cs room e =
     let ps = pointsOf cs in
-    let (odd, e₁) = passes (oddNumber cs) 0 _ e₀ in
-    let (few, e₂) = passes (fewPoints cs) 1 _ e₁ in
-    let (many, e₃) = passes (manyPoints cs) 2 _ e₂ in
-    let (off, e₄) = passes (offGrid cs) 3 _ e₃ in
-    let (equal, e₅) = passes (equalNeighbours ps) 4 _ e₄ in
-    let (short, e₆) = passes (ltb room (3 * (length ps - 2))) 5 _ e₅ in
-    let (ear, e₇) = passes (noEar ps) 6 _ e₆ in
+    let r = ready cs room (front-none (beforeCutting cs room) _ e) in
+    let (ear, last) = passes (noEar ps) 6 _ (sym (r .last-row) ∙ e) in
     let (ts, is) = not-stuck (cut ps) ear in
     record {
-      three = ltb-false (length ps) 3 few;
-      at-most = ltb-false 512 (length ps) many;
-      neighbours = apart ps (countFrom 0 (length ps)) (rw (all-points ps) (none-passes (λ e. same (e .from) (e .to)) (edges ps) equal));
-      fits = ltb-false room (3 * (length ps - 2)) short;
+      three = r .three;
+      at-most = r .at-most;
+      neighbours = apart ps (countFrom 0 (length ps)) (rw (all-points ps) (none-passes (λ e. same (e .from) (e .to)) (edges ps) (r .no-equals)));
+      fits = r .fits;
       triangles = ts;
       is-cut = is;
     }
@@ -122,32 +145,6 @@ merger-on-grid cs triangles room roomForLengths e₀ =
 stuck-is : (c : Cut) → isStuck c ≡ true → c ≡ stuck
 stuck-is stuck h = refl
 stuck-is (done ts) h = impossible (cc)
-
--- what the rows before 7 leave where none of them applies
-pub record Ready (cs : List Float) (room : ℕ) : Type 0 where
-  pub on-grid : offGrid cs ≡ false
-  pub three : 3 ≤ length (pointsOf cs)
-  pub at-most : length (pointsOf cs) ≤ 512
-  pub fits : 3 * (length (pointsOf cs) - 2) ≤ room
-  pub last-row : firstRefusal (cutterChecks cs room) ≡ firstRefusal (noEar (pointsOf cs) gives 7 ∷ [])
-
-pub ready : (cs : List Float) (room : ℕ) → firstRefusal (beforeCutting cs room) ≡ 0 → Ready cs room
-unfolding cutterChecks
-ready cs room e₀ =
-    let ps = pointsOf cs in
-    let (odd, e₁) = passes (oddNumber cs) 0 _ e₀ in
-    let (few, e₂) = passes (fewPoints cs) 1 _ e₁ in
-    let (many, e₃) = passes (manyPoints cs) 2 _ e₂ in
-    let (off, e₄) = passes (offGrid cs) 3 _ e₃ in
-    let (equal, e₅) = passes (equalNeighbours ps) 4 _ e₄ in
-    let (short, e₆) = passes (ltb room (3 * (length ps - 2))) 5 _ e₅ in
-    record {
-      on-grid = off;
-      three = ltb-false (length ps) 3 few;
-      at-most = ltb-false 512 (length ps) many;
-      fits = ltb-false room (3 * (length ps - 2)) short;
-      last-row = row-off 1 _ odd ∙ row-off 2 _ few ∙ row-off 3 _ many ∙ row-off 4 _ off ∙ row-off 5 _ equal ∙ row-off 6 _ short;
-    }
 
 -- the rows before 7, and 7
 pub refused-early : (cs : List Float) (room n : ℕ) → n ≡ firstRefusal (beforeCutting cs room) → (n ≡ 0 → ⊥) → n ≡ firstRefusal (cutterChecks cs room)

@@ -42,3 +42,10 @@ unfolding firstRefusal
 front-gives [] more n e h = absurd (h e)
 front-gives (true gives k ∷ rows) more n e h = e
 front-gives (false gives k ∷ rows) more n e h = front-gives rows more n e h
+
+-- and where all of them give none, the front rows do
+pub front-none : (rows more : List Row) → firstRefusal (rows ++ more) ≡ 0 → firstRefusal rows ≡ 0
+unfolding firstRefusal
+front-none [] more e = refl
+front-none (true gives k ∷ rows) more e = e
+front-none (false gives k ∷ rows) more e = front-none rows more e
