@@ -35,13 +35,14 @@ fn nearer(n: u64, g: u64) -> u64
     }
 }
 
-// About the root of n, and less than 2^25. The start is a line through the roots, within a twentieth of each.
+// About the root of n, and less than 2^25. The start is a parabola along the roots, within a hundredth of each.
 fn guess(n: u64) -> u64
     requires { ⌜ n < 2 ^ 48 ⌝ }
     ensures { λ r. ⌜ r < 2 ^ 25 ⌝ }
 {
-    let start = (n / 8388608 + 17825792) / 3;
-    let g = nearer(n, nearer(n, nearer(n, start)));
+    let t = n / 1073741824;
+    let start = 4350000 + t * (4288 - t / 203) / 64;
+    let g = nearer(n, nearer(n, start));
     if g < 33554432 { g } else { 0 }
 }
 
