@@ -4,27 +4,25 @@ use native.Mathlib.Omega.{arith}
 use mathlib.Core.Path.{_≡_, refl, ap, sym, _∙_}
 use mathlib.Core.Bool.{true}
 use mathlib.Core.List.{List, [], _∷_, _++_, map}
-use lib.ListN.{length, take, drop, length-set, length-map}
+use lib.ListN.{length, take, length-set, length-map}
 use lib.Ieee.{Float}
 use Rattle.algebra.specs.Lists.{countFrom}
 use Rattle.algebra.specs.Rings.{Corner, corners, ringOf}
 use Rattle.algebra.proofs.Counting.{count-length}
 use Rattle.rules.specs.Plane.{Pt}
 use Rattle.rules.specs.Cut.{Choice, nothing, best, choose, without, Cut, stuck, done, write, lowest, cutRing, cut}
-use Rattle.rules.specs.Layout.{flatten}
+use Rattle.rules.specs.Layout.{flatten, over}
 use Rattle.rules.specs.Entries.{trianglesOf, trianglesFor}
 use Rattle.rules.proofs.Outline.{cut-count}
-use Rattle.rules.proofs.Layouts.{triangles-length}
-use Rattle.ear_clipping.specs.Vertices.{prevOf, nextOf, activeOf, cornerAt, linkedCorner, those, ringIn, Stands, clipped, pickFrom, lowestFrom}
+use Rattle.vertices.specs.Vertices.{Vertices, prevOf, nextOf, activeOf, cornerAt, linkedCorner, those, ringIn, Stands, clipped, pickFrom, lowestFrom}
 use Rattle.ear_clipping.specs.Store.{put3}
 use Rattle.ear_clipping.specs.Promise.{Written}
-use Rattle.ear_clipping.specs.declared.vertices.Pick.{Pick}
-use Rattle.ear_clipping.specs.declared.vertices.Pick.the-variants.{Nothing, At}
-use Rattle.ear_clipping.specs.declared.vertices.Vertices.{Vertices}
-use Rattle.ear_clipping.proofs.Unlink.{corners-map, without-length}
-use Rattle.ear_clipping.proofs.Picks.{chosen, picks}
-use Rattle.ear_clipping.proofs.Actives.{PickOk, pick-ok, once, Lowest, none, some, lowest as lowest-on}
-use Rattle.ear_clipping.proofs.Steps.{cut-rep, cut-ring}
+use Rattle.vertices.specs.declared.Pick.{Pick}
+use Rattle.vertices.specs.declared.Pick.the-variants.{Nothing, At}
+use Rattle.vertices.proofs.Links.{corners-map, without-length}
+use Rattle.vertices.proofs.Picks.{chosen, picks}
+use Rattle.vertices.proofs.Actives.{PickOk, pick-ok, once, Lowest, none, some, lowest as lowest-on}
+use Rattle.vertices.proofs.Steps.{cut-rep, cut-ring}
 use Rattle.ear_clipping.proofs.Writes.{take-put}
 
 -- ---- one turn
@@ -35,7 +33,7 @@ gone-on k ps ring nothing = stuck
 gone-on k ps ring (best c f) = write c (cutRing k ps (without (c .at) ring))
 
 module _ (ps : List Pt) (n : ℕ) (s : Vertices) (h : Stands ps n s) where
-  chose : choose ps nothing (corners (ringIn n s)) ≡ chosen s (pickFrom s Nothing 0 n)
+  chose : choose ps nothing (corners (ringIn n s)) ≡ chosen s (pickFrom (s .active) (s .ears) (s .pointiness) Nothing 0 n)
   chose = ap (choose ps nothing) (corners-map (prevOf s) (nextOf s) (ringIn n s) (h .links)) ∙ picks ps s n (h .right-ears) Nothing 0 n (omega arith)
 
   cut-more : (k : ℕ) (b : Choice) → choose ps nothing (corners (ringIn n s)) ≡ b → cutRing (suc k) ps (ringIn n s) ≡ gone-on k ps (ringIn n s) b
@@ -43,26 +41,26 @@ module _ (ps : List Pt) (n : ℕ) (s : Vertices) (h : Stands ps n s) where
   cut-more k nothing e = rw (e, cutRing)
   cut-more k (best c f) e = rw (e, cutRing)
 
-  turn : (k : ℕ) (b : Pick) → pickFrom s Nothing 0 n ≡ b → cutRing (suc k) ps (ringIn n s) ≡ gone-on k ps (ringIn n s) (chosen s b)
+  turn : (k : ℕ) (b : Pick) → pickFrom (s .active) (s .ears) (s .pointiness) Nothing 0 n ≡ b → cutRing (suc k) ps (ringIn n s) ≡ gone-on k ps (ringIn n s) (chosen s b)
   turn k b e = cut-more k (chosen s b) (chose ∙ ap (chosen s) e)
 
-  pub cut-none : (left : ℕ) → 3 < left → pickFrom s Nothing 0 n ≡ Nothing → cutRing (left - 3) ps (ringIn n s) ≡ stuck
+  pub cut-none : (left : ℕ) → 3 < left → pickFrom (s .active) (s .ears) (s .pointiness) Nothing 0 n ≡ Nothing → cutRing (left - 3) ps (ringIn n s) ≡ stuck
   cut-none left l e = let q : left - 3 ≡ suc (left - 4) = omega arith in rw q (turn (left - 4) Nothing e)
 
-  pub picked : (i : ℕ) (v : Float) → pickFrom s Nothing 0 n ≡ At i v → (i < n) × (activeOf s i ≡ true)
+  pub picked : (i : ℕ) (v : Float) → pickFrom (s .active) (s .ears) (s .pointiness) Nothing 0 n ≡ At i v → (i < n) × (activeOf s i ≡ true)
   picked i v e =
-      let r : PickOk (activeOf s) n (pickFrom s Nothing 0 n) = pick-ok s n Nothing 0 n (omega arith) tt in
+      let r : PickOk (activeOf s) n (pickFrom (s .active) (s .ears) (s .pointiness) Nothing 0 n) = pick-ok s n Nothing 0 n (omega arith) tt in
       rw e at r
 
   pub cut-some :
-      (left i : ℕ) (v : Float) → 3 < left → n ≤ 512 → pickFrom s Nothing 0 n ≡ At i v
+      (left i : ℕ) (v : Float) → 3 < left → n ≤ 512 → pickFrom (s .active) (s .ears) (s .pointiness) Nothing 0 n ≡ At i v
       → cutRing (left - 3) ps (ringIn n s) ≡ write (cornerAt s i) (cutRing (left - 1 - 3) ps (ringIn n (clipped ps s i)))
   cut-some left i v l small e =
       let q : left - 3 ≡ suc (left - 1 - 3) = omega arith in
       let r = picked i v e in
       rw (q, cut-ring ps n s h small i (r .0) (r .1)) (turn (left - 1 - 3) (At i v) e)
 
-  pub ring-less : (i : ℕ) (v : Float) → n ≤ 512 → pickFrom s Nothing 0 n ≡ At i v → length (ringIn n s) ≡ suc (length (ringIn n (clipped ps s i)))
+  pub ring-less : (i : ℕ) (v : Float) → n ≤ 512 → pickFrom (s .active) (s .ears) (s .pointiness) Nothing 0 n ≡ At i v → length (ringIn n s) ≡ suc (length (ringIn n (clipped ps s i)))
   ring-less i v small e =
       let r = picked i v e in
       rw (cut-ring ps n s h small i (r .0) (r .1)) (without-length i (once (activeOf s) i 0 n (omega arith) (omega (arith, r .0)) (r .1)))
@@ -147,7 +145,7 @@ module _ (ps : List Pt) (n : ℕ) (triangles : List ℕ) (s : Vertices) (left k 
       ∙ sym (flat-more (h .written) (cornerAt s i))
 
   pub inv-more :
-      (i : ℕ) (v : Float) → 3 < left → pickFrom s Nothing 0 n ≡ At i v → (b f : ℕ) → b ≡ prevOf s i → f ≡ nextOf s i → (triangles' : List ℕ) (s' : Vertices)
+      (i : ℕ) (v : Float) → 3 < left → pickFrom (s .active) (s .ears) (s .pointiness) Nothing 0 n ≡ At i v → (b f : ℕ) → b ≡ prevOf s i → f ≡ nextOf s i → (triangles' : List ℕ) (s' : Vertices)
       → triangles' ≡ put3 triangles k b i f → s' ≡ clipped ps s i → Inv ps n triangles' s' (left - 1) (k + 3)
   inv-more i v l e b f eb ef triangles' s' put clip =
       let r = picked ps n s (h .stands) i v e in
@@ -177,7 +175,7 @@ module _ (ps : List Pt) (n : ℕ) (triangles : List ℕ) (s : Vertices) (left k 
 
   pub answer :
       (i : ℕ) → left ≡ 3 → n ≡ length ps → cutRing 0 ps (ringIn n s) ≡ done (cornerAt s i ∷ []) → (b f : ℕ) → b ≡ prevOf s i → f ≡ nextOf s i
-      → (triangles' out out' : List ℕ) → triangles' ≡ put3 triangles k b i f → out' ≡ take (k + 3) triangles' ++ drop (k + 3) out → Written ps out (n - 2) out'
+      → (triangles' out out' : List ℕ) → triangles' ≡ put3 triangles k b i f → out' ≡ over (take (k + 3) triangles') out → Written ps out (n - 2) out'
   unfolding trianglesFor
   answer i three is e b f eb ef triangles' out out' put copied =
       let w = h .written ++ cornerAt s i ∷ [] in
@@ -185,9 +183,8 @@ module _ (ps : List Pt) (n : ℕ) (triangles : List ℕ) (s : Vertices) (left k 
       let cuts : cut ps ≡ done w = h .work ∙ ap (writeAll (h .written)) (ap (λ (x : ℕ). cutRing x ps (ringIn n s)) zero-left ∙ e) ∙ all-done (h .written) (cornerAt s i ∷ []) in
       let q : trianglesFor ps ≡ map ringOf w = ap (λ c. map ringOf (trianglesOf c)) cuts in
       let n≡ : length w ≡ length ps - 2 = cut-count ps w (omega (arith, h .more, h .most)) cuts in
-      let size : length (flatten (map ringOf w)) ≡ k + 3 = triangles-length w ∙ omega (arith, n≡, h .count) in
       let f₁ : take (k + 3) triangles' ≡ flatten (map ringOf w) = rw (put, eb, ef) (put-store i) in
       record {
         count = rw (q, length-map w ringOf) (omega (arith, n≡));
-        indices = rw (q, size) (copied ∙ ap (λ (x : List ℕ). x ++ drop (k + 3) out) f₁);
+        indices = rw q (copied ∙ ap (λ (x : List ℕ). over x out) f₁);
       }

@@ -1,10 +1,4 @@
-pub mod Blocking
 pub mod Neighbours
-pub mod Unlink
-pub mod Actives
-pub mod Picks
-pub mod Steps
-pub mod Starts
 pub mod Writes
 pub mod Clips
 pub mod Entry

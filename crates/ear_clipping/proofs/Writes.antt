@@ -1,16 +1,11 @@
 -- The lists that the code writes.
 use Prim.Native.Nat.{ℕ, suc, _+_, _<_}
 use native.Mathlib.Omega.{arith}
-use native.Mathlib.Numerals.{add-one}
 use mathlib.Core.Path.{_≡_, ap, _∙_}
 use mathlib.Core.List.{List, [], _∷_, _++_, append-assoc}
-use lib.ListN.{length, getD, set, take, drop, length-set}
+use lib.ListN.{length, set, take, length-set}
 use Rattle.ear_clipping.specs.Store.{put3}
-use lib.Seq.{take-suc-set, take-suc, drop-cons, set-at, length-take-le}
-
-pub copy-more : (t o : List ℕ) (i : ℕ) → i < length t → i < length o → set (take i t ++ drop i o) i (getD t i 0) ≡ take (i + 1) t ++ drop (i + 1) o
-copy-more t o i h l =
-    rw (drop-cons o i 0 l, set-at (take i t) (getD o i 0) (drop (suc i) o) (getD t i 0) i (length-take-le i t (omega arith)), add-one i, take-suc t i 0 h, append-assoc)
+use lib.Seq.{take-suc-set}
 
 pub take-put : (l : List ℕ) (k a b c : ℕ) → k + 2 < length l → take (k + 3) (put3 l k a b c) ≡ take k l ++ a ∷ b ∷ c ∷ []
 take-put l k a b c h =

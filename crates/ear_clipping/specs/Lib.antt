@@ -1,4 +1,2 @@
-pub mod Ears
-pub mod Vertices
 pub mod Store
 pub mod Promise

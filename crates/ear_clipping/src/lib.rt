@@ -1,10 +1,11 @@
 // The cutter: after the crate's src/transformation/ear_clipping.rs.
-mod ear;
-mod vertices;
-
 use grid::point::Point;
 use vertices::Pick;
-use vertices::Vertices;
+use vertices::clip;
+use vertices::lowest;
+use vertices::neighbour;
+use vertices::pointiest;
+use vertices::start;
 ghost use mathlib.Core.Path.{_≡_};
 ghost use mathlib.Core.Bool.{true, false};
 ghost use mathlib.Core.List.{_++_};
@@ -95,6 +96,24 @@ fn zeros() -> [u32; 1530]
     [0u32; 1530]
 }
 
+fn links() -> [u16; 512]
+    ensures { λ r. ⌜ length r ≡ 512 ⌝ }
+{
+    [0u16; 512]
+}
+
+fn flags() -> [bool; 512]
+    ensures { λ r. ⌜ length r ≡ 512 ⌝ }
+{
+    [false; 512]
+}
+
+fn values() -> [f32; 512]
+    ensures { λ r. ⌜ length r ≡ 512 ⌝ }
+{
+    [0.0f32; 512]
+}
+
 // Writes a triangle at place k.
 fn put(triangles: &mut [u32; 1530], k: usize, a: usize, b: usize, c: usize)
     requires { ⌜ (k + 2 < 1530) × (a < 512) × (b < 512) × (c < 512) ⌝ }
@@ -105,18 +124,6 @@ fn put(triangles: &mut [u32; 1530], k: usize, a: usize, b: usize, c: usize)
     triangles[k + 2] = c as u32;
 }
 
-// Copies the first k of the triangles' indices to the lent slice.
-fn copy(triangles: &[u32; 1530], k: usize, indices: &mut [u32])
-    requires { ⌜ (k ≤ 1530) × (k ≤ length (now indices)) × (length (now triangles) ≡ 1530) ⌝ }
-    ensures { λ r. ⌜ now (indices .exit) ≡ take k (now (triangles .entry)) ++ drop k (now (indices .entry)) ⌝ }
-{
-    let mut i = 0;
-    while i < k {
-        indices[i] = triangles[i];
-        i += 1;
-    }
-}
-
 // Cuts an outline of n corners. Answers the number of triangles, or 0 where a ring has no ear; then nothing is written.
 fn cut(coords: &[f32], n: usize, indices: &mut [u32]) -> u32
     requires { ⌜ offGrid (now coords) ≡ false ⌝ }
@@ -125,26 +132,48 @@ fn cut(coords: &[f32], n: usize, indices: &mut [u32]) -> u32
     ensures { λ r. ⌜ Written (pointsOf (now (coords .entry))) (now (indices .entry)) r (now (indices .exit)) ⌝ }
 {
     let mut triangles = zeros();
-    let mut ring = Vertices::start(coords, n);
+    let mut prev = links();
+    let mut next = links();
+    let mut active = flags();
+    let mut ears = flags();
+    let mut pointiness = values();
+    start(
+        coords,
+        n,
+        &mut prev,
+        &mut next,
+        &mut active,
+        &mut ears,
+        &mut pointiness,
+    );
     let mut left = n;
     let mut k = 0;
     while 3 < left {
-        let best = ring.pick(n);
+        let best = pointiest(&active, &ears, &pointiness, n);
         let Pick::At(i, _) = best else {
             return 0;
         };
-        let before = ring.before(i);
-        let after = ring.after(i);
+        let before = neighbour(&prev, i);
+        let after = neighbour(&next, i);
         put(&mut triangles, k, before, i, after);
-        ring = ring.clip(coords, n, i);
+        clip(
+            coords,
+            n,
+            i,
+            &mut prev,
+            &mut next,
+            &mut active,
+            &mut ears,
+            &mut pointiness,
+        );
         k += 3;
         left -= 1;
     }
-    let i = ring.lowest(n);
-    let before = ring.before(i);
-    let after = ring.after(i);
+    let i = lowest(&active, n);
+    let before = neighbour(&prev, i);
+    let after = neighbour(&next, i);
     put(&mut triangles, k, before, i, after);
-    copy(&triangles, k + 3, indices);
+    words::copy(&triangles[..k + 3], indices);
     (n - 2) as u32
 }
 

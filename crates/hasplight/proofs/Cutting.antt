@@ -1,6 +1,6 @@
 -- The cutter's answer by the room alone: what it reports does not depend on what the lent words held, nor on room past 1530.
 use Prim.Native.Nat.{ℕ, zero, suc, _*_, _-_, _/_, _≤_, _<_}
-use mathlib.Core.Path.{_≡_, refl, sym, _∙_, ap, subst}
+use mathlib.Core.Path.{_≡_, refl, sym, _∙_, ap}
 use mathlib.Core.List.{List, [], _++_}
 use native.Mathlib.Omega.{arith}
 use borrow.Author.Tests.{le-ltb}
@@ -20,10 +20,11 @@ use Rattle.rules.proofs.Layouts.{take-over, triangles-length}
 use Rattle.rules.proofs.Results.{cut-result}
 use Rattle.ear_clipping.specs.Promise.{Promise}
 use Rattle.ear_clipping.specs.declared.Answer as Inner
-use Rattle.hasplight.specs.Bytes.{leastOf, wordsOf, floatsOf, bytesOf}
-use Rattle.hasplight.specs.Promise.{tooMany, CutterPromise}
+use Rattle.words.specs.Bytes.{wordsOf, bytesOf}
+use Rattle.words.proofs.Words.{words-length, write-first}
+use Rattle.hasplight.specs.Promise.{tooMany, leastOf, CutterGives}
 use Rattle.hasplight.specs.declared.Answer.{Answer}
-use Rattle.hasplight.proofs.Words.{words-length, floats-length, write-first, many-number, many-refused, least-below, least-within, least-room}
+use Rattle.hasplight.proofs.Least.{many-number, many-refused, least-below, least-within, least-room}
 
 -- ---- what is reported, by the number of the refusal
 
@@ -39,10 +40,6 @@ module _ (cs : List Float) where
   nothing : (n : ℕ) → counted (suc n) ≡ 0
   unfolding counted
   nothing n = refl
-
-  nothing-written : (n : ℕ) → reported (suc n) ≡ []
-  unfolding reported
-  nothing-written n = refl
 
   abbrev number : List ℕ → ℕ
   number out = firstRefusal (cutterChecks cs (length out))
@@ -119,16 +116,13 @@ unfolding cutterChecks
 many-refusal cs room n l h =
     many-number cs _ n l h (λ k. row-off 2 _ (le-ltb (length (pointsOf cs)) 3 (omega (arith, points-length cs))) ∙ row-on 3 _ (many-on cs k))
 
-module _ (coords indices : List ℕ) where
-  abbrev cs : List Float
-  cs = floatsOf coords
-
+module _ (cs : List Float) (indices : List ℕ) where
   abbrev W : List ℕ
   W = wordsOf indices
 
-  pub refused-many : (n t : ℕ) → n ≡ length coords / 4 → 1024 < n → t ≡ tooMany n → CutterPromise coords indices (record { number = t; count = 0 }) indices
+  pub refused-many : (n t : ℕ) → n ≡ length cs → 1024 < n → t ≡ tooMany n → CutterGives cs indices (record { number = t; count = 0 }) indices
   refused-many n t l h e =
-      let many : number cs W ≡ tooMany n = many-refusal cs (length W) n (l ∙ sym (floats-length coords)) h in
+      let many : number cs W ≡ tooMany n = many-refusal cs (length W) n l h in
       let k = many-refused n in
       let is : cutter cs W ≡ answer-of cs (tooMany n) W = cutter-is cs W ∙ ap (λ (m : ℕ). answer-of cs m W) many in
       let none : cutter cs W .count ≡ 0 = ap (λ (r : Cutting). r .count) is ∙ count-is cs (tooMany n) W ∙ ap (counted cs) (k .1) ∙ nothing cs (k .0) in
@@ -141,27 +135,24 @@ module _ (coords indices : List ℕ) where
       written-none : indices ≡ over (bytesOf []) indices
       written-none = write-first [] indices
 
-  -- the entry is called on the first n floats, and lent the first `room` of 1530 words
+  -- the cutter is lent the first `room` of 1530 words
   module _
-      (fs : List Float) (words : List ℕ) {n room : ℕ} (a : Inner.Answer) (after : List ℕ) (l : n ≡ length coords / 4) (h : n ≤ 1024) (f : take n fs ≡ cs)
-      (r : room ≡ leastOf (length indices / 4)) (w : length words ≡ 1530) (p : Promise (take n fs) (take room words) a after) where
+      (words : List ℕ) {room : ℕ} (a : Inner.Answer) (after : List ℕ) (few : length cs ≤ 1024) (r : room ≡ leastOf (length indices / 4)) (w : length words ≡ 1530)
+      (p : Promise cs (take room words) a after) where
     abbrev lent : List ℕ
     lent = take room words
 
     lent-length : length lent ≡ room
     lent-length = length-take-le room words (omega (arith, least-below (length indices / 4)))
 
-    promised : Promise cs lent a after
-    promised = subst (λ (l : List Float). Promise l lent a after) f p
-
     after-length : length after ≡ room
-    after-length = ap length (promised .indices) ∙ kept-length cs lent ∙ lent-length
+    after-length = ap length (p .indices) ∙ kept-length cs lent ∙ lent-length
 
     pub words-kept : 1530 ≡ length (after ++ drop room words)
     words-kept = sym (length-append after (drop room words) ∙ omega (arith, after-length, length-drop room words, least-below (length indices / 4)))
 
     written-fits : 3 * a .count ≤ room
-    written-fits = omega (arith, cut-fits cs lent, promised .count, lent-length)
+    written-fits = omega (arith, cut-fits cs lent, p .count, lent-length)
 
     pub cut-room : (count : ℕ) → count ≡ 3 * a .count → (count ≤ length (after ++ drop room words)) × (count * 4 ≤ length indices)
     cut-room count k = (omega (arith, words-kept, written-fits, least-below (length indices / 4)), omega (arith, written-fits, least-within (length indices / 4)))
@@ -170,15 +161,17 @@ module _ (coords indices : List ℕ) where
         × (take (3 * cutter cs lent .count) (cutter cs lent .indices) ≡ take (3 * cutter cs W .count) (cutter cs W .indices))
     same-answer =
         let X = 3 * (length (pointsOf cs) - 2) in
-        let x : X ≤ 1530 = omega (arith, points-length cs, floats-length coords) in
+        let x : X ≤ 1530 = omega (arith, points-length cs) in
         same-report cs lent W (rw (lent-length, r, words-length indices) (least-room (length indices / 4) X x))
 
     pub cut-kept :
         (count : ℕ) {indices' : List ℕ} → count ≡ 3 * a .count → indices' ≡ over (bytesOf (take count (after ++ drop room words))) indices
-        → CutterPromise coords indices (record { number = a .number; count = a .count }) indices'
+        → CutterGives cs indices (record { number = a .number; count = a .count }) indices'
     cut-kept count k b =
         let s = same-answer in
-        let q = promised in
         let front : take count (after ++ drop room words) ≡ take (3 * a .count) (cutter cs W .indices) =
-        take-append-le count after (drop room words) (omega (arith, after-length, written-fits, k)) ∙ rw (k, q .count, q .indices) (s .2 ∙ rw (s .1) refl) in
-        record { number = q .number ∙ s .0; count = q .count ∙ s .1; bytes = b ∙ ap (λ (ws : List ℕ). over (bytesOf ws) indices) front }
+        take-append-le count after (drop room words) (omega (arith, after-length, written-fits, k)) ∙ rw (k, p .count, p .indices) (s .2 ∙ rw (s .1) refl) in
+        record { number = p .number ∙ s .0; count = p .count ∙ s .1; bytes = b ∙ ap (λ (ws : List ℕ). over (bytesOf ws) indices) front }
+
+pub cut-read : (cs fs : List Float) (indices : List ℕ) (r : Answer) (indices' : List ℕ) → fs ≡ cs → CutterGives fs indices r indices' → CutterGives cs indices r indices'
+cut-read cs fs indices r indices' e g = rw e at g

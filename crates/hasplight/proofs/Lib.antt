@@ -1,5 +1,4 @@
-pub mod Nans
-pub mod Words
+pub mod Least
 pub mod Cutting
 pub mod Asked
 pub mod Sizes

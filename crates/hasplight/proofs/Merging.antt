@@ -20,10 +20,11 @@ use Rattle.rules.proofs.Layouts.{take-over, pieces-back}
 use Rattle.rules.proofs.Accepted.{in-range}
 use Rattle.hertel_mehlhorn.specs.Promise.{Promise}
 use Rattle.hertel_mehlhorn.specs.declared.Answer as Inner
-use Rattle.hasplight.specs.Bytes.{leastOf, wordsOf, floatsOf, bytesOf}
-use Rattle.hasplight.specs.Promise.{tooMany, longList, cornersOf, MergerPromise}
+use Rattle.words.specs.Bytes.{wordsOf, bytesOf}
+use Rattle.words.proofs.Words.{words-length}
+use Rattle.hasplight.specs.Promise.{tooMany, longList, cornersOf, leastOf, MergerGives}
 use Rattle.hasplight.specs.declared.Answer.{Answer}
-use Rattle.hasplight.proofs.Words.{words-length, floats-length, many-number, many-refused, least-below, least-within, least-room}
+use Rattle.hasplight.proofs.Least.{many-number, many-refused, least-below, least-within, least-room}
 use Rattle.hasplight.proofs.Sizes.{merged-corners, merged-count}
 
 -- ---- what is reported, by the number of the refusal
@@ -145,19 +146,13 @@ long-refused cs t = go (oddNumber cs) (offGrid cs) (eqb (t % 3) 0)
 
 -- ---- the promise over the bytes
 
-module _ (coords triangles indices lengths : List ℕ) where
-  abbrev cs : List Float
-  cs = floatsOf coords
-
-  abbrev tri : List ℕ
-  tri = wordsOf triangles
-
+module _ (cs : List Float) (tri indices lengths : List ℕ) where
   abbrev given-number : ℕ
   given-number = number cs tri (wordsOf indices) (wordsOf lengths)
 
   -- the promise, by the pieces
   kept : (a : Answer) (indices' lengths' : List ℕ) → a .number ≡ given-number → a .count ≡ length (reported cs tri given-number) → indices' ≡ over (bytesOf (flatten (reported cs tri given-number))) indices
-      → lengths' ≡ over (bytesOf (map length (reported cs tri given-number))) lengths → MergerPromise coords triangles indices lengths a indices' lengths'
+      → lengths' ≡ over (bytesOf (map length (reported cs tri given-number))) lengths → MergerGives cs tri indices lengths a indices' lengths'
   kept a indices' lengths' e f g h =
       let s = merger-says cs tri (wordsOf indices) (wordsOf lengths) in
       record {
@@ -167,30 +162,28 @@ module _ (coords triangles indices lengths : List ℕ) where
         length-bytes = h ∙ ap (λ (ps : List (List ℕ)). over (bytesOf (map length ps)) lengths) (sym (s .the-pieces));
       }
 
-  refused : (n k : ℕ) → n ≡ given-number → n ≡ suc k → MergerPromise coords triangles indices lengths (record { number = n; count = 0 }) indices lengths
+  refused : (n k : ℕ) → n ≡ given-number → n ≡ suc k → MergerGives cs tri indices lengths (record { number = n; count = 0 }) indices lengths
   unfolding reported flatten bytesOf
   refused n k e f =
       let none : reported cs tri given-number ≡ [] = ap (reported cs tri) (sym e ∙ f) in
       kept (record { number = n; count = 0 }) indices lengths e (sym (ap length none)) (sym (ap (λ (ps : List (List ℕ)). over (bytesOf (flatten ps)) indices) none)) (sym (ap (λ (ps : List (List ℕ)). over (bytesOf (map length ps)) lengths) none))
 
-  pub refused-many : (n t : ℕ) → n ≡ length coords / 4 → 1024 < n → t ≡ tooMany n → MergerPromise coords triangles indices lengths (record { number = t; count = 0 }) indices lengths
+  pub refused-many : (n t : ℕ) → n ≡ length cs → 1024 < n → t ≡ tooMany n → MergerGives cs tri indices lengths (record { number = t; count = 0 }) indices lengths
   refused-many n t l h e =
       let k = many-refused n in
-      refused t (k .0) (e ∙ sym (many-refusal cs tri (length (wordsOf indices)) (length (wordsOf lengths)) n (l ∙ sym (floats-length coords)) h)) (e ∙ k .1)
+      refused t (k .0) (e ∙ sym (many-refusal cs tri (length (wordsOf indices)) (length (wordsOf lengths)) n l h)) (e ∙ k .1)
 
   pub refused-long :
-      (fs : List Float) (n t r : ℕ) → n ≡ length coords / 4 → n ≤ 1024 → take n fs ≡ cs → t ≡ length triangles / 4 → 1530 < t → r ≡ longList (take n fs) t
-      → MergerPromise coords triangles indices lengths (record { number = r; count = 0 }) indices lengths
-  refused-long fs n t r l h f m k e =
-      let q : r ≡ longList cs t = e ∙ ap (λ (l : List Float). longList l t) f in
+      (fs : List Float) (t r : ℕ) → fs ≡ cs → length cs ≤ 1024 → t ≡ length tri → 1530 < t → r ≡ longList fs t → MergerGives cs tri indices lengths (record { number = r; count = 0 }) indices lengths
+  refused-long fs t r same few m k e =
       let s = long-refused cs t in
-      refused r (s .0) (q ∙ sym (long-number cs tri (length (wordsOf indices)) (length (wordsOf lengths)) t (omega (arith, floats-length coords)) (m ∙ sym (words-length triangles)) k)) (q ∙ s .1)
+      let q : r ≡ longList cs t = e ∙ ap (λ (l : List Float). longList l t) same in
+      refused r (s .0) (q ∙ sym (long-number cs tri (length (wordsOf indices)) (length (wordsOf lengths)) t few m k)) (q ∙ s .1)
 
-  -- the entry is called on the first n floats and the first t words, and lent the first words of two rooms of 1530
+  -- the merger is lent the first words of two rooms of 1530
   module _
-      (fs : List Float) (given out sizes : List ℕ) {n t room places : ℕ} (a : Inner.Answer) (after after-lengths : List ℕ) (l : n ≡ length coords / 4) (f : take n fs ≡ cs) (m : t ≡ length triangles / 4)
-      (few : t ≤ 1530) (g : take t given ≡ tri) (r : room ≡ leastOf (length indices / 4)) (q : places ≡ leastOf (length lengths / 4)) (w : length out ≡ 1530) (v : length sizes ≡ 1530)
-      (p : Promise (take n fs) (take t given) (take room out) (take places sizes) a after after-lengths) where
+      (out sizes : List ℕ) {t room places : ℕ} (a : Inner.Answer) (after after-lengths : List ℕ) (m : t ≡ length tri) (few : t ≤ 1530) (r : room ≡ leastOf (length indices / 4))
+      (q : places ≡ leastOf (length lengths / 4)) (w : length out ≡ 1530) (v : length sizes ≡ 1530) (p : Promise cs tri (take room out) (take places sizes) a after after-lengths) where
     abbrev lent : List ℕ
     lent = take room out
 
@@ -209,15 +202,11 @@ module _ (coords triangles indices lengths : List ℕ) where
     same-number : number cs tri lent lent-lengths ≡ given-number
     unfolding mergerChecks
     same-number =
-        let T : length tri ≡ t = words-length triangles ∙ sym m in
         let x : ltb (length lent) (length tri) ≡ ltb (length (wordsOf indices)) (length tri) =
-        rw (lent-is, r, words-length indices) (least-room (length indices / 4) (length tri) (omega (arith, T))) in
+        rw (lent-is, r, words-length indices) (least-room (length indices / 4) (length tri) (omega arith)) in
         let y : ltb (length lent-lengths) (length tri / 3) ≡ ltb (length (wordsOf lengths)) (length tri / 3) =
-        rw (places-are, q, words-length lengths) (least-room (length lengths / 4) (length tri / 3) (omega (arith, T))) in
+        rw (places-are, q, words-length lengths) (least-room (length lengths / 4) (length tri / 3) (omega arith)) in
         rw (x, y)
-
-    promised : Promise cs tri lent lent-lengths a after after-lengths
-    promised = subst (λ (l : List ℕ). Promise cs l lent lent-lengths a after after-lengths) g (subst (λ (l : List Float). Promise l (take t given) lent lent-lengths a after after-lengths) f p)
 
     inner : Says cs tri (merger cs tri lent lent-lengths) given-number lent lent-lengths
     inner = subst (λ (n : ℕ). Says cs tri (merger cs tri lent lent-lengths) n lent lent-lengths) same-number (merger-says cs tri lent lent-lengths)
@@ -226,19 +215,19 @@ module _ (coords triangles indices lengths : List ℕ) where
     fit = fitting cs tri given-number (length lent) (length lent-lengths) same-number
 
     number-is : a .number ≡ given-number
-    number-is = promised .number ∙ inner .the-number
+    number-is = p .number ∙ inner .the-number
 
     count-is : a .count ≡ length R
-    count-is = promised .count ∙ inner .the-count
+    count-is = p .count ∙ inner .the-count
 
     after-is : after ≡ over (flatten R) lent
-    after-is = promised .indices-are ∙ inner .the-indices
+    after-is = p .indices-are ∙ inner .the-indices
 
     lengths-are : after-lengths ≡ over (map length R) lent-lengths
-    lengths-are = promised .lengths-are ∙ inner .the-lengths
+    lengths-are = p .lengths-are ∙ inner .the-lengths
 
     corners-kept : (k : ℕ) → k ≡ cornersOf (a .number) t (a .count) → k ≡ length (flatten R)
-    corners-kept k e = e ∙ rw (number-is, count-is, m ∙ sym (words-length triangles)) (sym (fit .corners-are))
+    corners-kept k e = e ∙ rw (number-is, count-is, m) (sym (fit .corners-are))
 
     pub out-kept : 1530 ≡ length (after ++ drop room out)
     out-kept =
@@ -261,9 +250,14 @@ module _ (coords triangles indices lengths : List ℕ) where
     pub merge-kept :
         (k : ℕ) {indices' lengths' : List ℕ} → k ≡ cornersOf (a .number) t (a .count) → indices' ≡ over (bytesOf (take k (after ++ drop room out))) indices
         → lengths' ≡ over (bytesOf (take (a .count) (after-lengths ++ drop places sizes))) lengths
-        → MergerPromise coords triangles indices lengths (record { number = a .number; count = a .count }) indices' lengths'
+        → MergerGives cs tri indices lengths (record { number = a .number; count = a .count }) indices' lengths'
     merge-kept k e b d =
         let front : take k (after ++ drop room out) ≡ flatten R = rw (corners-kept k e, after-is) (front-back (flatten R) lent (drop room out)) in
         let lens : take (a .count) (after-lengths ++ drop places sizes) ≡ map length R =
         rw (count-is ∙ sym (length-map R length), lengths-are) (front-back (map length R) lent-lengths (drop places sizes)) in
         kept (record { number = a .number; count = a .count }) _ _ number-is count-is (b ∙ ap (λ (ws : List ℕ). over (bytesOf ws) indices) front) (d ∙ ap (λ (ws : List ℕ). over (bytesOf ws) lengths) lens)
+
+pub merge-read :
+    (cs fs : List Float) (tri ws indices lengths : List ℕ) (r : Answer) (indices' lengths' : List ℕ) → fs ≡ cs → ws ≡ tri → MergerGives fs ws indices lengths r indices' lengths'
+    → MergerGives cs tri indices lengths r indices' lengths'
+merge-read cs fs tri ws indices lengths r indices' lengths' e f g = rw (e, f) at g

@@ -8,7 +8,7 @@ use lib.Ieee.{Float}
 use Rattle.rules.specs.Plane.{Pt}
 use Rattle.rules.specs.Layout.{over}
 use Rattle.rules.specs.Entries.{cutter}
-use Rattle.hasplight.specs.Bytes.{wordsOf, floatsOf, bytesOf}
+use Rattle.words.specs.Bytes.{wordsOf, floatsOf, bytesOf}
 use Rattle.hasplight.specs.Promise.{CutterPromise, MergerPromise, PointPromise}
 use Rattle.hasplight.specs.declared.Answer.{Answer}
 use Rattle.hasplight.specs.declared.Verdict.{Verdict}

@@ -4,14 +4,14 @@ use Prim.Native.Nat.{ℕ, zero, suc, _+_, _*_, _/_, _%_}
 use mathlib.Core.Path.{_≡_}
 use mathlib.Core.Bool.{Bool, cond}
 use mathlib.Core.List.{List, map}
-use lib.Dec.{eqb}
+use lib.Dec.{eqb, ltb}
 use lib.ListN.{length, take}
 use lib.Ieee.{Float}
 use Rattle.rules.specs.Plane.{Pt}
 use Rattle.rules.specs.Layout.{flatten, over}
 use Rattle.rules.specs.Refusals.{oddNumber, offGrid}
 use Rattle.rules.specs.Entries.{cutter, merger, asking, writtenPieces}
-use Rattle.hasplight.specs.Bytes.{wordsOf, floatsOf, bytesOf}
+use Rattle.words.specs.Bytes.{wordsOf, floatsOf, bytesOf}
 use Rattle.hasplight.specs.declared.Answer.{Answer}
 use Rattle.hasplight.specs.declared.Verdict.{Verdict}
 
@@ -23,22 +23,38 @@ tooMany n = cond (eqb (n % 2) 1) 1 3
 abbrev pub longList : List Float → ℕ → ℕ
 longList cs t = cond (oddNumber cs) 1 (cond (offGrid cs) 4 (cond (eqb (t % 3) 0) 10 8))
 
+-- n, or 1530 where it is more
+abbrev pub leastOf : ℕ → ℕ
+leastOf n = cond (ltb n 1530) n 1530
+
 -- the number of indices in the pieces that t indices were merged to: each piece has two corners more than it has triangles
 abbrev pub cornersOf : ℕ → ℕ → ℕ → ℕ
 cornersOf zero t count = t / 3 + 2 * count
 cornersOf (suc number) t count = 0
 
-pub record CutterPromise (coords indices : List ℕ) (r : Answer) (indices' : List ℕ) : Type 0 where
-  pub number : r .number ≡ cutter (floatsOf coords) (wordsOf indices) .number
-  pub count : r .count ≡ cutter (floatsOf coords) (wordsOf indices) .count
-  pub bytes : indices' ≡ over (bytesOf (take (3 * r .count) (cutter (floatsOf coords) (wordsOf indices) .indices))) indices
+-- what the cutter gives back for these coordinates
+pub record CutterGives (cs : List Float) (indices : List ℕ) (r : Answer) (indices' : List ℕ) : Type 0 where
+  pub number : r .number ≡ cutter cs (wordsOf indices) .number
+  pub count : r .count ≡ cutter cs (wordsOf indices) .count
+  pub bytes : indices' ≡ over (bytesOf (take (3 * r .count) (cutter cs (wordsOf indices) .indices))) indices
 
-pub record MergerPromise (coords triangles indices lengths : List ℕ) (r : Answer) (indices' lengths' : List ℕ) : Type 0 where
-  pub number : r .number ≡ merger (floatsOf coords) (wordsOf triangles) (wordsOf indices) (wordsOf lengths) .number
-  pub count : r .count ≡ merger (floatsOf coords) (wordsOf triangles) (wordsOf indices) (wordsOf lengths) .count
-  pub bytes : indices' ≡ over (bytesOf (flatten (writtenPieces (merger (floatsOf coords) (wordsOf triangles) (wordsOf indices) (wordsOf lengths))))) indices
-  pub length-bytes : lengths' ≡ over (bytesOf (map length (writtenPieces (merger (floatsOf coords) (wordsOf triangles) (wordsOf indices) (wordsOf lengths))))) lengths
+abbrev pub CutterPromise : List ℕ → List ℕ → Answer → List ℕ → Type 0
+CutterPromise coords = CutterGives (floatsOf coords)
 
-pub record PointPromise (test : Pt → List Pt → Bool) (x y : Float) (coords : List ℕ) (r : Verdict) : Type 0 where
-  pub number : r .number ≡ asking test x y (floatsOf coords) .number
-  pub answer : r .answer ≡ cond (asking test x y (floatsOf coords) .answer) 1 0
+-- what the merger gives back for these coordinates and these triangles' indices
+pub record MergerGives (cs : List Float) (triangles indices lengths : List ℕ) (r : Answer) (indices' lengths' : List ℕ) : Type 0 where
+  pub number : r .number ≡ merger cs triangles (wordsOf indices) (wordsOf lengths) .number
+  pub count : r .count ≡ merger cs triangles (wordsOf indices) (wordsOf lengths) .count
+  pub bytes : indices' ≡ over (bytesOf (flatten (writtenPieces (merger cs triangles (wordsOf indices) (wordsOf lengths))))) indices
+  pub length-bytes : lengths' ≡ over (bytesOf (map length (writtenPieces (merger cs triangles (wordsOf indices) (wordsOf lengths))))) lengths
+
+abbrev pub MergerPromise : List ℕ → List ℕ → List ℕ → List ℕ → Answer → List ℕ → List ℕ → Type 0
+MergerPromise coords triangles = MergerGives (floatsOf coords) (wordsOf triangles)
+
+-- what a point test gives back for these coordinates
+pub record PointGives (test : Pt → List Pt → Bool) (x y : Float) (cs : List Float) (r : Verdict) : Type 0 where
+  pub number : r .number ≡ asking test x y cs .number
+  pub answer : r .answer ≡ cond (asking test x y cs .answer) 1 0
+
+abbrev pub PointPromise : (Pt → List Pt → Bool) → Float → Float → List ℕ → Verdict → Type 0
+PointPromise test x y coords = PointGives test x y (floatsOf coords)

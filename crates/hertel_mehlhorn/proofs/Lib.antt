@@ -1,10 +1,4 @@
-pub mod Lists
-pub mod Rings
-pub mod Below
-pub mod Ways
-pub mod Joints
-pub mod Writes
-pub mod Changes
+pub mod Ranges
 pub mod Outputs
 pub mod Merging
 pub mod Entry

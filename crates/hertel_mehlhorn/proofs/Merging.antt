@@ -1,33 +1,30 @@
 -- The steps of the merge, on the state.
 use Prim.Native.Nat.{ℕ, zero, suc, _+_, _-_, _*_, _/_, _%_, _<_, _≤_}
 use native.Mathlib.Omega.{arith}
-use native.Mathlib.Nat.{sub-zero}
 use mathlib.Core.Path.{_≡_, refl, ap, sym, subst, _∙_}
 use mathlib.Core.List.{List, [], _∷_, _++_, append-assoc, append-nil}
 use lib.ListN.{length, getD, take, drop, replicate, length-append, length-drop, length-replicate}
-use lib.Seq.{slice, length-slice, length-take-le, take-all}
+use lib.Seq.{slice, length-slice, length-take-le}
 use Rattle.rules.specs.Plane.{Pt}
 use mathlib.Core.Option.{none}
-use Rattle.algebra.specs.Rings.{begunAt}
 use Rattle.rules.specs.Merge.{lastFirst, nextJoin, merge}
 use Rattle.rules.specs.Layout.{split, flatten, triples}
 use Rattle.hertel_mehlhorn.specs.Promise.{Written}
-use Rattle.hertel_mehlhorn.specs.Pieces.{Known, begun, ring, sum, pieces, Long}
-use Rattle.hertel_mehlhorn.specs.Search.{Joins, others}
-use Rattle.hertel_mehlhorn.specs.State.{Stands, Joinable, Changed}
+use Rattle.pieces.specs.Pieces.{Known, begun, ring, sum, pieces, Long}
+use Rattle.pieces.specs.Search.{Joins, others}
+use Rattle.pieces.specs.State.{Stands, Joinable, Changed}
 use Rattle.rules.specs.Layout.{over}
-use Rattle.hertel_mehlhorn.specs.declared.ring.Ring.{Ring}
-use Rattle.hertel_mehlhorn.specs.declared.search.Join.{Join}
-use Rattle.hertel_mehlhorn.specs.declared.search.Join.the-variants.{Nowhere, At}
+use Rattle.pieces.specs.declared.ring.Ring.{Ring}
+use Rattle.pieces.specs.declared.search.Join.{Join}
+use Rattle.pieces.specs.declared.search.Join.the-variants.{Nowhere, At}
 use Rattle.rules.proofs.Merges.{merge-next, merge-join}
 use Rattle.algebra.specs.Lists.{Each, end, _&_}
 use Rattle.algebra.proofs.Lists.{each-imp}
 use lib.Ieee.{Float}
 use Rattle.rules.specs.Grid.{pointsOf}
-use Rattle.hertel_mehlhorn.proofs.Below.{each-first}
-use Rattle.hertel_mehlhorn.proofs.Rings.{length-begun}
-use Rattle.hertel_mehlhorn.proofs.Lists.{here, sum-append, sum-slice, slice-snoc, slice-none, split-take, length-split, pieces-cons, pieces-snoc}
-use Rattle.hertel_mehlhorn.proofs.Writes.{begun-zero}
+use Rattle.pieces.proofs.Below.{each-first}
+use Rattle.pieces.proofs.Rings.{length-begun}
+use Rattle.pieces.proofs.Lists.{here, sum-append, sum-slice, slice-snoc, slice-none, split-take, length-split, pieces-cons, pieces-snoc}
 use Rattle.hertel_mehlhorn.proofs.Outputs.{lengths-split}
 
 -- the merge is what is finished, and the merge of what is left
@@ -124,6 +121,10 @@ module _ (ps : List Pt) (tris : List (List ℕ)) (corners many : ℕ) (store len
         placed = rw (o .0, o .1) (f .1);
       }
 
+  -- what is to be joined fits where it is kept meanwhile
+  pub fits : (total ≤ 1530) × (count ≤ 510)
+  fits = let s = w .stands in (omega (arith, s .whole, s .lies .room, s .store-size), omega (arith, s .lies .counted, s .lens-size))
+
   pub three-left : a < count → 3 ≤ total
   three-left h =
       let s = w .stands in
@@ -165,16 +166,15 @@ take-threes (suc m) (suc n) h = ap (λ (l : List ℕ). 3 ∷ l) (take-threes m n
 
 pub work-first :
     (ps : List Pt) (tri zeros store lens : List ℕ) → length tri % 3 ≡ 0 → length tri ≤ 1530 → zeros ≡ replicate 1530 0 → Each (λ i. i < length ps) tri
-    → store ≡ begunAt 0 (ring tri 0 (length tri)) ++ drop (length tri - 0) zeros → lens ≡ replicate 510 3
+    → store ≡ over tri zeros → lens ≡ replicate 510 3
     → Work ps (triples tri) (length tri) (length tri / 3) store lens (length tri / 3) (length tri) 0 0
 unfolding split sum
 work-first ps tri zeros store lens d h zs below e f =
     let z : length zeros ≡ 1530 = ap length zs ∙ length-replicate {A = ℕ} 1530 0 in
     let m = length tri / 3 in
     let l : length tri ≡ 3 * m = omega arith in
-    let s : store ≡ tri ++ drop (length tri) zeros = e ∙ rw (begun-zero (ring tri 0 (length tri)), take-all (length tri) tri (omega arith), sub-zero) in
     let t : take m lens ≡ replicate m 3 = ap (take m) f ∙ take-threes m 510 (omega arith) in
-    let size : length store ≡ 1530 = ap length s ∙ simp (length-append, length-drop) (omega arith) in
+    let size : length store ≡ 1530 = ap length e ∙ simp (length-append, length-drop) (omega arith) in
     let many : length lens ≡ 510 = ap length f ∙ length-replicate {A = ℕ} 510 3 in
     record {
       stands = record {
@@ -187,8 +187,8 @@ work-first ps tri zeros store lens d h zs below e f =
       before = omega arith;
       few = omega arith;
       small = omega arith;
-      below = each-first tri zeros store (length tri - 0) zs (omega arith) (each-imp (λ i l. at-most i l) below) e;
-      work = ap (merge ps) (sym (rw (t, s) (split-triples m tri (drop (length tri) zeros) l)));
+      below = each-first tri zeros store zs (omega arith) (each-imp (λ i l. at-most i l) below) e;
+      work = ap (merge ps) (sym (rw (t, e) (split-triples m tri (drop (length tri) zeros) l)));
     }
   where
     at-most : (i : ℕ) → i < length ps → i ≤ length ps - 1

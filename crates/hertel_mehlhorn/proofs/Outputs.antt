@@ -10,11 +10,11 @@ use lib.Seq.{slice, take-suc, length-take-le}
 use borrow.Rule.Slice.PartMut.{putMid}
 use Rattle.algebra.specs.Rings.{begunAt}
 use Rattle.rules.specs.Layout.{split, flatten}
-use Rattle.hertel_mehlhorn.specs.Pieces.{ring, sum, pieces}
+use Rattle.pieces.specs.Pieces.{ring, sum, pieces}
 use Rattle.rules.specs.Layout.{over}
-use Rattle.hertel_mehlhorn.proofs.Rings.{length-ring}
-use Rattle.hertel_mehlhorn.proofs.Lists.{sum-append, sum-slice, pieces-snoc}
-use Rattle.hertel_mehlhorn.proofs.Writes.{Built, built-length, built-more, built-put, lent-tail, begun-zero}
+use Rattle.pieces.proofs.Rings.{length-ring}
+use Rattle.pieces.proofs.Lists.{sum-append, sum-slice, pieces-snoc}
+use Rattle.pieces.proofs.Writes.{Built, built-length, built-more, built-put, lent-tail, begun-zero}
 
 pub flat-append : (x y : List (List ℕ)) → flatten (x ++ y) ≡ flatten x ++ flatten y
 unfolding flatten

@@ -1,5 +1,1 @@
-pub mod Pieces
-pub mod Search
-pub mod Write
-pub mod State
 pub mod Promise

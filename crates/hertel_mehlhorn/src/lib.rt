@@ -1,15 +1,10 @@
 // The merger: after the crate's src/transformation/hertel_mehlhorn.rs.
-// The pieces stand one behind the other in a flat store, with a second list of their lengths.
-mod joining;
-mod ring;
-mod search;
-
-use joining::join_pieces;
-use ring::Ring;
-use ring::wide;
-use ring::write_ring;
-use search::Join;
-use search::next_join;
+use pieces::joining::join_pieces;
+use pieces::ring::Ring;
+use pieces::ring::wide;
+use pieces::ring::write_ring;
+use pieces::search::Join;
+use pieces::search::next_join;
 ghost use mathlib.Core.Path.{_≡_};
 ghost use Prim.Native.Nat.{_/_, _%_, _≤_};
 ghost use lib.ListN.{length, take, replicate};
@@ -17,7 +12,7 @@ ghost use Rattle.rules.specs.Grid.{pointsOf};
 ghost use Rattle.rules.specs.Layout.{flatten, triples, over};
 ghost use Rattle.rules.specs.Merge.{merge as mergeOf};
 ghost use Rattle.rules.specs.Refusals.{firstRefusal, mergerChecks};
-ghost use Rattle.hertel_mehlhorn.specs.Pieces.{pieces, sum, Known};
+ghost use Rattle.pieces.specs.Pieces.{pieces, sum, Known};
 ghost use Rattle.hertel_mehlhorn.specs.Promise.{Written, Promise, anyFrom};
 
 // Document 01's number, and how many pieces were written.
@@ -77,22 +72,30 @@ fn merge(coords: &[f32], triangles: &[u32], indices: &mut [u32], lengths: &mut [
     let mut count = total / 3;
     let mut store = zeros();
     let mut lens = threes();
-    let given = Ring {
-        at: 0,
-        len: total,
-        first: 0,
-    };
-    write_ring(triangles, given, 0, &mut store);
+    words::copy(triangles, &mut store);
+    let mut old = zeros();
+    let mut sizes = threes();
     let mut a = 0;
     let mut at = 0;
     while a < count {
-        match next_join(coords, &store, &lens, count, a, at) {
+        match next_join(coords, &store, &lens, count, total, a, at) {
             Join::Nowhere => {
                 at += wide(lens[a]);
                 a += 1;
             }
             Join::At { own, piece, ring } => {
-                join_pieces(&mut store, &mut lens, count, total, a, own, piece, ring);
+                join_pieces(
+                    &mut store,
+                    &mut lens,
+                    &mut old,
+                    &mut sizes,
+                    count,
+                    total,
+                    a,
+                    own,
+                    piece,
+                    ring,
+                );
                 count -= 1;
                 total -= 2;
             }

@@ -49,7 +49,7 @@ fn field(record: &[u8], i: usize) -> u32
     requires { ⌜ i ≤ 6 ⌝ }
 {
     if i * 4 + 3 < record.len() {
-        hasplight::bytes::word(record, i)
+        words::word(record, i)
     } else {
         0
     }
@@ -98,8 +98,8 @@ fn merge(
 }
 
 fn ask(record: &[u8], coords: &[u8], spot: &[u8], convex: bool) -> bool {
-    let x = hasplight::bytes::float(field(spot, 0));
-    let y = hasplight::bytes::float(field(spot, 1));
+    let x = words::float(field(spot, 0));
+    let y = words::float(field(spot, 1));
     let v = if convex {
         hasplight::hasplight_point_in_convex_poly2d(x, y, coords)
     } else {

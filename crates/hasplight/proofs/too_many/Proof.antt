@@ -1,5 +1,5 @@
 -- `too_many` meets its contract.
-use Rattle.hasplight.proofs.Words.{odd-many, even-many}
+use Rattle.hasplight.proofs.Least.{odd-many, even-many}
 use Rattle.hasplight.proofs.too_many.Statement.{statement}
 use Rattle.hasplight.proofs.too_many.Tie as tie
 

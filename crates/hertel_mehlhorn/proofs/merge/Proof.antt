@@ -7,19 +7,19 @@ use mathlib.Core.List.{List}
 use lib.ListN.{length, replicate, length-replicate}
 use Rattle.rules.specs.Grid.{pointsOf}
 use Rattle.rules.specs.Layout.{triples}
-use Rattle.hertel_mehlhorn.proofs.Lists.{here}
-use Rattle.hertel_mehlhorn.proofs.Merging.{Work, known, work-first, work-next, work-join, joinable, three-left, work-end, work-done}
+use Rattle.pieces.proofs.Lists.{here}
+use Rattle.hertel_mehlhorn.proofs.Merging.{Work, known, work-first, work-next, work-join, joinable, fits, three-left, work-end, work-done}
 use Rattle.hertel_mehlhorn.proofs.merge.Statement.{statement}
 use Rattle.hertel_mehlhorn.proofs.merge.Tie as tie
 
-length-zeros : (l : List ℕ) → l ≡ replicate 1530 0 → length l ≡ 1530
-length-zeros l e = ap length e ∙ length-replicate {A = ℕ} 1530 0
+same-all : (n k : ℕ) (l : List ℕ) → l ≡ replicate n k → length l ≡ n
+same-all n k l e = ap length e ∙ length-replicate {A = ℕ} n k
 
 abbrev Inv-loop : tie.InvT-loop
-Inv-loop coords triangles indices lengths total₀ count₀ store₀ lens₀ a₀ at₀ total count store lens a at = Work (pointsOf coords) (triples triangles) (length triangles) (length triangles / 3) store lens count total a at
+Inv-loop coords triangles indices lengths total₀ count₀ store₀ lens₀ old₀ sizes₀ a₀ at₀ total count store lens old sizes a at = Work (pointsOf coords) (triples triangles) (length triangles) (length triangles / 3) store lens count total a at × (length old ≡ 1530) × (length sizes ≡ 510)
 
 abbrev μ-loop : tie.MeasureT-loop
-μ-loop coords triangles indices lengths total₀ count₀ store₀ lens₀ a₀ at₀ total count store lens a at = count - a
+μ-loop coords triangles indices lengths total₀ count₀ store₀ lens₀ old₀ sizes₀ a₀ at₀ total count store lens old sizes a at = count - a
 
 zeros-requires : tie.Need-zeros-requires Inv-loop μ-loop
 zeros-requires c κs = search needs
@@ -27,81 +27,105 @@ zeros-requires c κs = search needs
 threes-requires : tie.Need-threes-requires Inv-loop μ-loop
 threes-requires c κs = search needs
 
-slice-aggregate-write-ring : tie.Need-slice-aggregate-write-ring Inv-loop μ-loop
-slice-aggregate-write-ring c = sym (length-zeros _ (c .before .before .zeros .ensures))
+slice-aggregate-copy : tie.Need-slice-aggregate-copy Inv-loop μ-loop
+slice-aggregate-copy c = sym (same-all 1530 0 _ (c .before .before .zeros .ensures))
 
-write-ring-requires : tie.Need-write-ring-requires Inv-loop μ-loop
-write-ring-requires c κs = (record { place = omega arith; fits = omega arith }, (omega arith, omega (arith, length-zeros _ (c .before .before .zeros .ensures), c .before .before .before .before .before .before .before .pre .1 .0)))
+copy-requires : tie.Need-copy-requires Inv-loop μ-loop
+copy-requires c κs = omega (arith, same-all 1530 0 _ (c .before .before .zeros .ensures), c .before .before .before .before .before .before .before .pre .1 .0)
+
+zeros-requires-2 : tie.Need-zeros-requires-2 Inv-loop μ-loop
+zeros-requires-2 c κs = search needs
+
+threes-requires-2 : tie.Need-threes-requires-2 Inv-loop μ-loop
+threes-requires-2 c κs = search needs
 
 loop-holds : tie.Need-loop-holds Inv-loop μ-loop
 loop-holds c =
-    let p = c .before .before .before .before .before .before .before .before .before .pre .1 .0 in
-    work-first _ _ _ _ _ (p .0) (p .1) (c .before .before .before .before .zeros .ensures) (c .before .before .before .before .before .before .before .before .before .pre .0 .below) (c .before .write-ring .ensures) (c .before .before .before .threes .ensures)
+    let p = c .before .before .before .before .before .before .before .before .before .before .before .pre in
+    (work-first _ _ _ _ _ (p .1 .0 .0) (p .1 .0 .1) (c .before .before .before .before .before .before .zeros .ensures) (p .0 .below) (c .before .before .before .copy .ensures) (c .before .before .before .before .before .threes .ensures), same-all 1530 0 _ (c .before .zeros2 .ensures), same-all 510 3 _ (c .threes2 .ensures))
 
 slice-aggregate-next-join : tie.Need-slice-aggregate-next-join Inv-loop μ-loop
-slice-aggregate-next-join c = sym (c .before .before .loop .inv .stands .store-size)
+slice-aggregate-next-join c = sym (c .before .before .loop .inv .0 .stands .store-size)
 
 slice-aggregate-next-join-2 : tie.Need-slice-aggregate-next-join-2 Inv-loop μ-loop
-slice-aggregate-next-join-2 c = sym (c .before .before .before .loop .inv .stands .lens-size)
+slice-aggregate-next-join-2 c = sym (c .before .before .before .loop .inv .0 .stands .lens-size)
 
 next-join-requires : tie.Need-next-join-requires Inv-loop μ-loop
-next-join-requires c κs = (known (c .before .before .before .before .before .before .before .before .before .before .before .before .before .pre .0) (omega (arith, c .before .before .loop-test .taken, c .before .before .before .loop .inv .few)) (c .before .before .before .loop .inv .below), (c .before .before .before .loop .inv .stands .lies, c .before .before .loop-test .taken))
+next-join-requires c κs =
+    let w = c .before .before .before .loop .inv .0 in
+    let t = c .before .before .loop-test .taken in
+    (known (c .before .before .before .before .before .before .before .before .before .before .before .before .before .before .before .pre .0) (omega (arith, t, w .few)) (w .below), (w .stands .lies, (t, w .stands .whole)))
 
 enum-told : tie.Need-enum-told Inv-loop μ-loop
 enum-told c = search needs
 
 mul-wide : tie.Need-mul-wide Inv-loop μ-loop
-mul-wide c = let s = c .before .before .before .before .before .before .loop .inv .stands in omega (arith, c .before .before .before .before .before .loop-test .taken, s .lies .counted, s .lens-size)
+mul-wide c = let s = c .before .before .before .before .before .before .loop .inv .0 .stands in omega (arith, c .before .before .before .before .before .loop-test .taken, s .lies .counted, s .lens-size)
 
 array-read-wide : tie.Need-array-read-wide Inv-loop μ-loop
-array-read-wide c = let s = c .before .before .before .before .before .before .loop .inv .stands in omega (arith, c .before .before .before .before .before .loop-test .taken, s .lies .counted, s .lens-size)
+array-read-wide c = let s = c .before .before .before .before .before .before .loop .inv .0 .stands in omega (arith, c .before .before .before .before .before .loop-test .taken, s .lies .counted, s .lens-size)
 
 wide-requires : tie.Need-wide-requires Inv-loop μ-loop
 wide-requires c κs = search needs
 
 add-at : tie.Need-add-at Inv-loop μ-loop
-add-at c = let s = c .before .before .before .before .before .before .before .loop .inv .stands in omega (arith, here _ _ _ _ _ _ (c .wide .ensures) (s .lies) (c .before .before .before .before .before .before .loop-test .taken) .fits, s .store-size)
+add-at c = let s = c .before .before .before .before .before .before .before .loop .inv .0 .stands in omega (arith, here _ _ _ _ _ _ (c .wide .ensures) (s .lies) (c .before .before .before .before .before .before .loop-test .taken) .fits, s .store-size)
 
 add-a : tie.Need-add-a Inv-loop μ-loop
-add-a c = let s = c .before .before .before .before .before .before .before .loop .inv .stands in omega (arith, c .before .before .before .before .before .before .loop-test .taken, s .lies .counted, s .lens-size)
+add-a c = let s = c .before .before .before .before .before .before .before .loop .inv .0 .stands in omega (arith, c .before .before .before .before .before .before .loop-test .taken, s .lies .counted, s .lens-size)
 
 loop-less : tie.Need-loop-less Inv-loop μ-loop
 loop-less c = omega (arith, c .before .before .before .before .before .before .loop-test .taken)
 
 loop-again : tie.Need-loop-again Inv-loop μ-loop
-loop-again c =
-    work-next _ _ _ _ _ _ _ _ _ _ (c .before .before .before .before .before .before .before .loop .inv) _ (c .wide .ensures) (c .before .before .before .before .before .before .loop-test .taken) _ (c .before .before .before .next-join .ensures) (c .before .enum-told .given .1)
+loop-again c = let l = c .before .before .before .before .before .before .before .loop .inv in (work-next _ _ _ _ _ _ _ _ _ _ (l .0) _ (c .wide .ensures) (c .before .before .before .before .before .before .loop-test .taken) _ (c .before .before .before .next-join .ensures) (c .before .enum-told .given .1), l .1, l .2)
 
 enum-known-own : tie.Need-enum-known-own Inv-loop μ-loop
 enum-known-own c = search needs
 
+slice-aggregate-join-pieces : tie.Need-slice-aggregate-join-pieces Inv-loop μ-loop
+slice-aggregate-join-pieces c = sym (c .before .before .before .before .before .before .before .before .loop .inv .0 .stands .store-size)
+
+slice-aggregate-join-pieces-2 : tie.Need-slice-aggregate-join-pieces-2 Inv-loop μ-loop
+slice-aggregate-join-pieces-2 c = sym (c .before .before .before .before .before .before .before .before .before .loop .inv .0 .stands .lens-size)
+
+slice-aggregate-join-pieces-3 : tie.Need-slice-aggregate-join-pieces-3 Inv-loop μ-loop
+slice-aggregate-join-pieces-3 c = sym (c .before .before .before .before .before .before .before .before .before .before .loop .inv .1)
+
+slice-aggregate-join-pieces-4 : tie.Need-slice-aggregate-join-pieces-4 Inv-loop μ-loop
+slice-aggregate-join-pieces-4 c = sym (c .before .before .before .before .before .before .before .before .before .before .before .loop .inv .2)
+
 join-pieces-requires : tie.Need-join-pieces-requires Inv-loop μ-loop
 join-pieces-requires c κs =
-    joinable _ _ _ _ _ _ _ _ _ _ (c .before .before .before .before .before .before .before .before .before .loop .inv) _ (c .before .before .before .before .before .next-join .ensures) _ _ _ (c .before .before .before .own .given .1)
+    let l = c .before .before .before .before .before .before .before .before .before .before .before .loop .inv in
+    let m = fits _ _ _ _ _ _ _ _ _ _ (l .0) in
+    (joinable _ _ _ _ _ _ _ _ _ _ (l .0) _ (c .before .before .before .before .before .before .before .next-join .ensures) _ _ _ (c .before .before .before .before .before .own .given .1), (omega (arith, m .0, l .1), omega (arith, m .1, l .2)))
 
 sub-count : tie.Need-sub-count Inv-loop μ-loop
-sub-count c = omega (arith, c .before .before .before .before .before .before .before .before .before .loop-test .taken)
+sub-count c = omega (arith, c .before .before .before .before .before .before .before .before .before .before .before .before .before .before .before .loop-test .taken)
 
 sub-total : tie.Need-sub-total Inv-loop μ-loop
-sub-total c = omega (arith, three-left _ _ _ _ _ _ _ _ _ _ (c .before .before .before .before .before .before .before .before .before .before .loop .inv) (c .before .before .before .before .before .before .before .before .before .loop-test .taken))
+sub-total c = omega (arith, three-left _ _ _ _ _ _ _ _ _ _ (c .before .before .before .before .before .before .before .before .before .before .before .before .before .before .before .before .loop .inv .0) (c .before .before .before .before .before .before .before .before .before .before .before .before .before .before .before .loop-test .taken))
 
 loop-less-2 : tie.Need-loop-less-2 Inv-loop μ-loop
-loop-less-2 c = omega (arith, c .before .before .before .before .before .before .before .before .before .loop-test .taken)
+loop-less-2 c = omega (arith, c .before .before .before .before .before .before .before .before .before .before .before .before .before .before .before .loop-test .taken)
 
 loop-again-2 : tie.Need-loop-again-2 Inv-loop μ-loop
 loop-again-2 c =
-    work-join _ _ _ _ _ _ _ _ _ _ (c .before .before .before .before .before .before .before .before .before .before .loop .inv) _ (c .before .before .before .before .before .before .next-join .ensures) _ _ _ (c .before .before .before .before .own .given .1) _ _ (c .join-pieces .ensures)
+    let l = c .before .before .before .before .before .before .before .before .before .before .before .before .before .before .before .before .loop .inv in
+    let j = c .before .before .before .before in
+    (work-join _ _ _ _ _ _ _ _ _ _ (l .0) _ (c .before .before .before .before .before .before .before .before .before .before .before .before .next-join .ensures) _ _ _ (c .before .before .before .before .before .before .before .before .before .before .own .given .1) _ _ (j .join-pieces .ensures), j .join-pieces .kept .1 .1 .0 ∙ l .1, j .join-pieces .kept .1 .1 .1 .0 ∙ l .2)
 
 slice-aggregate-write-pieces : tie.Need-slice-aggregate-write-pieces Inv-loop μ-loop
-slice-aggregate-write-pieces c = sym (c .before .before .loop .inv .stands .store-size)
+slice-aggregate-write-pieces c = sym (c .before .before .loop .inv .0 .stands .store-size)
 
 slice-aggregate-write-pieces-2 : tie.Need-slice-aggregate-write-pieces-2 Inv-loop μ-loop
-slice-aggregate-write-pieces-2 c = sym (c .before .before .before .loop .inv .stands .lens-size)
+slice-aggregate-write-pieces-2 c = sym (c .before .before .before .loop .inv .0 .stands .lens-size)
 
 write-pieces-requires : tie.Need-write-pieces-requires Inv-loop μ-loop
 write-pieces-requires c κs =
-    let w = c .before .before .before .before .before .loop .inv in
-    let p = c .before .before .before .before .before .before .before .before .before .before .before .before .before .before .before .pre .1 in
+    let w = c .before .before .before .before .before .loop .inv .0 in
+    let p = c .before .before .before .before .before .before .before .before .before .before .before .before .before .before .before .before .before .pre .1 in
     let e = work-end _ _ _ _ _ _ _ _ _ _ w (c .before .before .before .before .loop-test .left) .1 in
     let s = w .stands in
     ((s .lies .counted, omega (arith, w .few, p .1)), (omega (arith, e, w .small, p .0, s .store-size), omega (arith, e, w .small, p .1)))
@@ -114,8 +138,8 @@ same-length-2 c = search needs
 
 returns : tie.Need-returns Inv-loop μ-loop
 returns c =
-    let w = c .before .before .before .before .before .before .before .before .before .before .loop .inv in
-    let p = c .before .before .before .before .before .before .before .before .before .before .before .before .before .before .before .before .before .before .before .before .pre .1 in
+    let w = c .before .before .before .before .before .before .before .before .before .before .loop .inv .0 in
+    let p = c .before .before .before .before .before .before .before .before .before .before .before .before .before .before .before .before .before .before .before .before .before .before .pre .1 in
     let s = w .stands in
     let e = work-end _ _ _ _ _ _ _ _ _ _ w (c .before .before .before .before .before .before .before .before .before .loop-test .left) in
     let f = c .before .before .before .before .write-pieces .ensures in
@@ -129,8 +153,10 @@ merge-spec =
     μ-loop
     zeros-requires
     threes-requires
-    slice-aggregate-write-ring
-    write-ring-requires
+    slice-aggregate-copy
+    copy-requires
+    zeros-requires-2
+    threes-requires-2
     loop-holds
     slice-aggregate-next-join
     slice-aggregate-next-join-2
@@ -144,6 +170,10 @@ merge-spec =
     loop-less
     loop-again
     enum-known-own
+    slice-aggregate-join-pieces
+    slice-aggregate-join-pieces-2
+    slice-aggregate-join-pieces-3
+    slice-aggregate-join-pieces-4
     join-pieces-requires
     sub-count
     sub-total

@@ -5,7 +5,7 @@ use native.Mathlib.Omega.{arith}
 use borrow.Author.Needs.{needs}
 use lib.ListN.{length, drop}
 use Rattle.hertel_mehlhorn.specs.Promise.{anyFrom}
-use Rattle.hertel_mehlhorn.proofs.Below.{range-more, range-out, range-end}
+use Rattle.hertel_mehlhorn.proofs.Ranges.{range-more, range-out, range-end}
 use Rattle.hertel_mehlhorn.proofs.out_of_range.Statement.{statement}
 use Rattle.hertel_mehlhorn.proofs.out_of_range.Tie as tie
 

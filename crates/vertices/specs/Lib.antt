@@ -1,0 +1,2 @@
+pub mod Ears
+pub mod Vertices

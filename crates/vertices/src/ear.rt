@@ -1,0 +1,84 @@
+// A corner is either no ear, or an ear that carries its pointiness.
+use grid::point::Point;
+use grid::point_in_triangle::corner_direction;
+use grid::point_in_triangle::is_point_in_triangle;
+ghost use mathlib.Core.Path.{_≡_};
+ghost use mathlib.Core.Bool.{true, false};
+ghost use Prim.Native.Nat.{_<_};
+ghost use lib.ListN.{length};
+ghost use Rattle.rules.specs.Grid.{pointsOf};
+ghost use Rattle.rules.specs.Ear as Rules;
+ghost use Rattle.rules.specs.Refusals.{offGrid};
+ghost use Rattle.grid.specs.Points.{onGridPt, ptOf};
+ghost use Rattle.vertices.specs.Ears.{cornerOf, Within, blocksOf, earOf};
+
+pub enum Ear {
+    No,
+    Pointed(f32),
+}
+
+// The three corners of an ear: the one before, the corner, and the one after.
+pub struct Triangle {
+    pub before: usize,
+    pub at: usize,
+    pub after: usize,
+}
+
+// Whether point number i, which is q, blocks the triangle with the points p1, p and p3.
+fn blocks(t: Triangle, p1: Point, p: Point, p3: Point, i: usize, q: Point) -> bool
+    requires { ⌜ onGridPt p1 ≡ true ⌝ }
+    requires { ⌜ onGridPt p ≡ true ⌝ }
+    requires { ⌜ onGridPt p3 ≡ true ⌝ }
+    requires { ⌜ onGridPt q ≡ true ⌝ }
+    ensures { λ r. ⌜ r ≡ blocksOf (cornerOf t) (ptOf p1) (ptOf p) (ptOf p3) i (ptOf q) ⌝ }
+{
+    if is_point_in_triangle(q, p1, p, p3) {
+        if i == t.before {
+            return false;
+        }
+        if i == t.at {
+            return false;
+        }
+        return i != t.after;
+    }
+    false
+}
+
+// Whether some point of the whole outline is in the triangle.
+fn blocked(coords: &[f32], t: Triangle) -> bool
+    requires { ⌜ offGrid (now coords) ≡ false ⌝ }
+    requires { ⌜ Within (length (pointsOf (now coords))) t ⌝ }
+    ensures { λ r. ⌜ r ≡ Rules.blocked (pointsOf (now (coords .entry))) (cornerOf t) ⌝ }
+{
+    let p1 = grid::point_at(coords, t.before);
+    let p = grid::point_at(coords, t.at);
+    let p3 = grid::point_at(coords, t.after);
+    let n = coords.len() / 2;
+    let mut i = 0;
+    while i < n {
+        let q = grid::point_at(coords, i);
+        if blocks(t, p1, p, p3, i, q) {
+            return true;
+        }
+        i += 1;
+    }
+    false
+}
+
+// The ear at a corner: convex, and no other point in its triangle.
+pub fn update_vertex(coords: &[f32], t: Triangle) -> Ear
+    requires { ⌜ offGrid (now coords) ≡ false ⌝ }
+    requires { ⌜ Within (length (pointsOf (now coords))) t ⌝ }
+    ensures { λ r. ⌜ r ≡ earOf (pointsOf (now (coords .entry))) (cornerOf t) ⌝ }
+{
+    let p1 = grid::point_at(coords, t.before);
+    let p = grid::point_at(coords, t.at);
+    let p3 = grid::point_at(coords, t.after);
+    if !corner_direction(p1, p, p3).is_ccw() {
+        return Ear::No;
+    }
+    if blocked(coords, t) {
+        return Ear::No;
+    }
+    Ear::Pointed(root::pointiness(p1, p, p3))
+}
