@@ -11,20 +11,33 @@ use show::merge_large;
 use show::root;
 use show::text;
 
-// K1 to K11: the square P, the arrow Q, a triangle, P backwards.
-fn twelve() {
-    let p = [0.0f32, 0.0, 4.0, 0.0, 4.0, 4.0, 0.0, 4.0];
+// The square P.
+fn square() -> [f32; 8] {
+    [0.0f32, 0.0, 4.0, 0.0, 4.0, 4.0, 0.0, 4.0]
+}
+
+// A merge with room for four triangles.
+fn merge_few(name: &[u8], coords: &[f32], triangles: &[u32]) {
+    merge(name, coords, triangles, &mut [9u32; 12], &mut [9u32; 4]);
+}
+
+// K1 to K6: P, the arrow Q, a triangle, P backwards.
+fn shapes_cut() {
+    let p = square();
     let q = [0.0f32, 0.0, 2.0, 1.0, 4.0, 0.0, 2.0, 4.0];
     let t = [0.0f32, 0.0, 4.0, 0.0, 0.0, 4.0];
     let back = [0.0f32, 0.0, 0.0, 4.0, 4.0, 4.0, 4.0, 0.0];
-    let k1 = [2u32, 3, 0, 2, 0, 1];
-    let k3 = [1u32, 2, 3, 3, 0, 1];
     cut(b"K1  P cut", &p, &mut [9u32; 6]);
-    merge(b"K2  K1 merged", &p, &k1, &mut [9u32; 12], &mut [9u32; 4]);
+    merge_few(b"K2  K1 merged", &p, &[2u32, 3, 0, 2, 0, 1]);
     cut(b"K3  Q cut", &q, &mut [9u32; 6]);
-    merge(b"K4  K3 merged", &q, &k3, &mut [9u32; 12], &mut [9u32; 4]);
+    merge_few(b"K4  K3 merged", &q, &[1u32, 2, 3, 3, 0, 1]);
     cut(b"K5  a triangle cut", &t, &mut [9u32; 3]);
     cut(b"K6  P backwards cut", &back, &mut [9u32; 6]);
+}
+
+// K7 to K12: P asked on its border, P with too little room, a root.
+fn square_asked() {
+    let p = square();
     ask(b"K7  P asked at (0,2)", 0.0, 2.0, &p);
     ask(b"K8  P asked at (4,2)", 4.0, 2.0, &p);
     ask(b"K9  P asked at (2,0)", 2.0, 0.0, &p);
@@ -42,20 +55,24 @@ fn front(coords: &[f32], n: usize) -> &[f32] {
     }
 }
 
-// The limits of the point tests.
-fn spots() {
+// The limits of the point tests: few corners.
+fn spots_of_few() {
     let none = [0.0f32; 0];
     let one = [1.0f32, 1.0];
     let two = [0.0f32, 0.0, 2.0, 2.0];
-    let odd = [0.0f32, 0.0, 4.0];
-    let minus_zero = [-0.0f32, -0.0, 4.0, 0.0, 4.0, 4.0, 0.0, 4.0];
-    let off = [0.0f32, 0.0, 1025.0, 0.0, 4.0, 4.0];
-    let half = [0.0f32, 0.0, 0.5, 0.0, 4.0, 4.0];
     ask(b"no corners", 0.0, 0.0, &none);
     ask_convex(b"no corners, convex", 0.0, 0.0, &none);
     ask_convex(b"one corner, convex", 7.0, -9.0, &one);
     ask_convex(b"two corners, convex, on their line", 9.0, 9.0, &two);
     ask_convex(b"two corners, convex, off their line", 9.0, 8.0, &two);
+}
+
+// And the grid.
+fn spots_on_the_grid() {
+    let odd = [0.0f32, 0.0, 4.0];
+    let minus_zero = [-0.0f32, -0.0, 4.0, 0.0, 4.0, 4.0, 0.0, 4.0];
+    let off = [0.0f32, 0.0, 1025.0, 0.0, 4.0, 4.0];
+    let half = [0.0f32, 0.0, 0.5, 0.0, 4.0, 4.0];
     ask(b"an odd number of coordinates", 0.0, 0.0, &odd);
     ask(b"minus zero for zero", 0.0, 2.0, &minus_zero);
     ask(b"asked at minus zero", -0.0, 2.0, &minus_zero);
@@ -103,35 +120,18 @@ fn outlines_of_many(border: &[f32], comb: &[f32], spiral: &[f32]) {
 
 // The limits of the merger.
 fn triangle_lists() {
-    let p = [0.0f32, 0.0, 4.0, 0.0, 4.0, 4.0, 0.0, 4.0];
-    let none = [0u32; 0];
-    let ragged = [0u32, 1];
-    let far = [0u32, 1, 4];
-    let repeated = [0u32, 0, 0, 1, 1, 1];
+    let p = square();
     let moved = [2u32, 3, 0, 2, 0, 1, 2, 3, 0, 1, 2, 3];
-    merge(b"no triangles", &p, &none, &mut [9u32; 12], &mut [9u32; 4]);
-    merge(b"two indices", &p, &ragged, &mut [9u32; 12], &mut [9u32; 4]);
-    merge(
-        b"an index not below the points",
-        &p,
-        &far,
-        &mut [9u32; 12],
-        &mut [9u32; 4],
-    );
-    merge(
-        b"repeated indices",
-        &p,
-        &repeated,
-        &mut [9u32; 12],
-        &mut [9u32; 4],
-    );
-    merge(
-        b"the last piece moves",
-        &p,
-        &moved,
-        &mut [9u32; 12],
-        &mut [9u32; 4],
-    );
+    merge_few(b"no triangles", &p, &[0u32; 0]);
+    merge_few(b"two indices", &p, &[0u32, 1]);
+    merge_few(b"an index not below the points", &p, &[0u32, 1, 4]);
+    merge_few(b"repeated indices", &p, &[0u32, 0, 0, 1, 1, 1]);
+    merge_few(b"the last piece moves", &p, &moved);
+}
+
+// At 510 and 511 triangles.
+fn lists_of_many() {
+    let p = square();
     merge_large(b"510 triangles of one point", &p, &[0u32; 1530]);
     merge_large(b"511 triangles", &p, &[0u32; 1533]);
 }
@@ -217,13 +217,16 @@ fn many(border: &[f32; 1026], comb: &[f32; 1024], spiral: &[f32; 128]) {
 
 fn main() {
     text(b"The twelve small cases\n");
-    twelve();
+    shapes_cut();
+    square_asked();
     text(b"\nSpots\n");
-    spots();
+    spots_of_few();
+    spots_on_the_grid();
     text(b"\nOutlines\n");
     outlines();
     text(b"\nTriangle lists\n");
     triangle_lists();
+    lists_of_many();
     many(&shapes::border(), &shapes::comb(), &shapes::spiral());
     text(b"\nRoots\n");
     show::roots();

@@ -11,12 +11,12 @@ use Rattle.rules.specs.Merge.{lastFirst, nextJoin, merge}
 use Rattle.rules.specs.Layout.{split, flatten, triples}
 use Rattle.hertel_mehlhorn.specs.Promise.{Written}
 use Rattle.pieces.specs.Pieces.{Known, begun, ring, sum, pieces, Long}
-use Rattle.pieces.specs.Search.{Joins, others}
-use Rattle.pieces.specs.State.{Stands, Joinable, Changed}
+use Rattle.joins.specs.Search.{Joins}
+use Rattle.pieces.specs.State.{others, Stands, Joinable, Changed}
 use Rattle.rules.specs.Layout.{over}
 use Rattle.pieces.specs.declared.ring.Ring.{Ring}
-use Rattle.pieces.specs.declared.search.Join.{Join}
-use Rattle.pieces.specs.declared.search.Join.the-variants.{Nowhere, At}
+use Rattle.joins.specs.declared.Join.{Join}
+use Rattle.joins.specs.declared.Join.the-variants.{Nowhere, At}
 use Rattle.rules.proofs.Merges.{merge-next, merge-join}
 use Rattle.algebra.specs.Lists.{Each, end, _&_}
 use Rattle.algebra.proofs.Lists.{each-imp}

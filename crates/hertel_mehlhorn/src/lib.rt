@@ -1,10 +1,10 @@
 // The merger: after the crate's src/transformation/hertel_mehlhorn.rs.
+use joins::Join;
+use joins::next_join;
 use pieces::joining::join_pieces;
 use pieces::ring::Ring;
 use pieces::ring::wide;
 use pieces::ring::write_ring;
-use pieces::search::Join;
-use pieces::search::next_join;
 ghost use mathlib.Core.Path.{_≡_};
 ghost use Prim.Native.Nat.{_/_, _%_, _≤_};
 ghost use lib.ListN.{length, take, replicate};

@@ -1,21 +1,13 @@
--- Every index of the store is one of a point: parts of it, what is written from it, and its corners.
+-- What holds of every index of the store holds of its parts, and of what is written from it.
 use Prim.Native.Nat.{ℕ, zero, suc, _+_, _-_, _<_}
-use mathlib.Core.Path.{_≡_, _∙_, ap}
-use mathlib.Core.Bool.{Bool}
+use mathlib.Core.Path.{_≡_}
 use mathlib.Core.List.{List, [], _∷_}
 use native.Mathlib.Omega.{arith}
 use lib.ListN.{length, getD, take, drop, replicate, take-append-drop}
-use lib.Ieee.{Float}
 use Rattle.algebra.specs.Lists.{Each, end, _&_}
 use Rattle.algebra.proofs.Lists.{each-++, each-front, each-back}
-use Rattle.rules.specs.Grid.{pointsOf}
 use Rattle.rules.specs.Layout.{over}
-use Rattle.rules.specs.Plane.{Pt, turn}
-use Rattle.rules.specs.Ear.{point, turnsRight}
-use Rattle.grid.specs.declared.point_in_triangle.Orientation.{Orientation}
-use Rattle.grid.specs.Points.{orientation, isCw}
-use Rattle.grid.proofs.Turn.{cw-right}
-use Rattle.pieces.specs.Pieces.{ring, begun, Known}
+use Rattle.pieces.specs.Pieces.{ring, begun}
 use Rattle.pieces.specs.Write.{joinedStore}
 use Rattle.pieces.specs.declared.ring.Ring.{Ring}
 
@@ -28,12 +20,12 @@ module _ {P : ℕ → Type 0} where
   each-drop : (n : ℕ) (l : List ℕ) → Each P l → Each P (drop n l)
   each-drop n l h = each-back (take n l) (drop n l) (rw (take-append-drop n l) h)
 
-  each-at : (l : List ℕ) (i : ℕ) → i < length l → Each P l → P (getD l i 0)
+  pub each-at : (l : List ℕ) (i : ℕ) → i < length l → Each P l → P (getD l i 0)
   each-at [] i h e = absurd (omega arith)
   each-at (a ∷ l) zero h (p & e) = p
   each-at (a ∷ l) (suc i) h (p & e) = each-at l i (omega arith) e
 
-  each-begun : (store : List ℕ) (r : Ring) → Each P store → Each P (begun store r)
+  pub each-begun : (store : List ℕ) (r : Ring) → Each P store → Each P (begun store r)
   each-begun store r h =
       let k = each-take (r .len) (drop (r .at) store) (each-drop (r .at) store h) in
       each-++ (each-drop (r .first) (ring store (r .at) (r .len)) k) (each-take (r .first) (ring store (r .at) (r .len)) k)
@@ -59,14 +51,3 @@ module _ {P : ℕ → Type 0} where
 
   pub each-first : (given zeros store : List ℕ) → zeros ≡ replicate 1530 0 → P 0 → Each P given → store ≡ over given zeros → Each P store
   each-first given zeros store z p h e = rw (e, z) (each-++ h (each-drop (length given) (replicate 1530 0) (each-same 1530 0 p)))
-
--- a corner of a ring, as the code reads it
-pub corner-below : {cs : List Float} {store : List ℕ} → Known cs store → (r : Ring) (d x : ℕ) → d < length (begun store r) → x ≡ getD (begun store r) d 0 → x < length (pointsOf cs)
-corner-below {store} k r d x h e = rw e (each-at (begun store r) d h (each-begun store r (k .below)))
-
--- ---- three corners by their points
-
-pub turn-is :
-    (ps : List Pt) (a b c a' b' c' : ℕ) → a' ≡ a → b' ≡ b → c' ≡ c → (p q r : Pt) → p ≡ point ps a' → q ≡ point ps b' → r ≡ point ps c' → (d : Orientation) → d ≡ orientation (turn p q r)
-    → (t : Bool) → t ≡ isCw d → t ≡ turnsRight ps a b c
-turn-is ps a b c a' b' c' ea eb ec p q r ep eq er d is t e = e ∙ ap isCw is ∙ cw-right (turn p q r) ∙ rw (ep, eq, er, ea, eb, ec)

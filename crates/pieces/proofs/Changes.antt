@@ -10,11 +10,10 @@ use Rattle.algebra.specs.Rings.{begunAt}
 use Rattle.rules.specs.Merge.{lastFirst}
 use Rattle.rules.specs.Layout.{split}
 use Rattle.pieces.specs.Pieces.{begun, ring, sum, pieces, Long}
-use Rattle.pieces.specs.Search.{others}
 use Rattle.rules.specs.Layout.{over}
 use Rattle.pieces.specs.Write.{joinedStore, joinedLens, lastStart}
 use Rattle.pieces.specs.declared.ring.Ring.{Ring}
-use Rattle.pieces.specs.State.{Joinable, Changed}
+use Rattle.pieces.specs.State.{others, Joinable, Changed}
 use Rattle.pieces.proofs.Rings.{length-ring, length-begun}
 use Rattle.pieces.proofs.Below.{each-joined}
 use Rattle.pieces.proofs.Lists.{sum-append, sum-begun, slice-join, ring-slice, split-append, split-front, split-take, split-begun, length-split, long-append, long-parts, long-begun}

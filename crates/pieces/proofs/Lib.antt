@@ -1,9 +1,6 @@
 pub mod Lists
 pub mod Rings
 pub mod Below
-pub mod Scans
-pub mod Ways
-pub mod Joints
 pub mod Writes
 pub mod Kept
 pub mod Changes

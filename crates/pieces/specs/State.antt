@@ -7,7 +7,20 @@ use lib.Seq.{slice}
 use Rattle.algebra.specs.Lists.{Each}
 use Rattle.pieces.specs.Pieces.{begun, pieces, sum, Lies}
 use Rattle.pieces.specs.declared.ring.Ring.{Ring}
-use Rattle.pieces.specs.Search.{Placed, others}
+use Rattle.rules.specs.Merge.{lastFirst}
+
+-- the pieces from number a on, which begin at `at`, without number b, which stands as r
+abbrev pub others : List ℕ → List ℕ → ℕ → ℕ → ℕ → ℕ → Ring → List (List ℕ)
+others store lens count a at b r = pieces store lens a b at ++ lastFirst (pieces store lens (b + 1) count (r .at + r .len))
+
+-- number b of the pieces from number a on, which begin at `at`, stands as r, begun at one of its corners
+pub record Placed (store lens : List ℕ) (count a at b : ℕ) (r : Ring) : Type 0 where
+  pub from : a ≤ b
+  pub below : b < count
+  pub size : r .len ≡ getD lens b 0
+  pub corner : r .first < r .len
+  pub start : r .at ≡ at + sum (slice a b lens)
+  pub lies : Lies store lens count b (r .at)
 
 -- `count` pieces of `total` corners; number a begins at `at`
 pub record Stands (store lens : List ℕ) (count total a at : ℕ) : Type 0 where
