@@ -145,11 +145,11 @@ module _ (ps : List Pt) (n : ℕ) (triangles : List ℕ) (s : Vertices) (left k 
       ∙ sym (flat-more (h .written) (cornerAt s i))
 
   pub inv-more :
-      (i : ℕ) (v : Float) → 3 < left → pickFrom (s .active) (s .ears) (s .pointiness) Nothing 0 n ≡ At i v → (b f : ℕ) → b ≡ prevOf s i → f ≡ nextOf s i → (triangles' : List ℕ) (s' : Vertices)
-      → triangles' ≡ put3 triangles k b i f → s' ≡ clipped ps s i → Inv ps n triangles' s' (left - 1) (k + 3)
-  inv-more i v l e b f eb ef triangles' s' put clip =
+      (i : ℕ) (v : Float) → 3 < left → pickFrom (s .active) (s .ears) (s .pointiness) Nothing 0 n ≡ At i v → (triangles' : List ℕ) (s' : Vertices)
+      → triangles' ≡ put3 triangles k (prevOf s i) i (nextOf s i) → s' ≡ clipped ps s i → Inv ps n triangles' s' (left - 1) (k + 3)
+  inv-more i v l e triangles' s' put clip =
       let r = picked ps n s (h .stands) i v e in
-      rw (put, clip, eb, ef)
+      rw (put, clip)
       (record {
         more = omega (arith, h .more);
         most = omega (arith, h .most);
@@ -174,16 +174,16 @@ module _ (ps : List Pt) (n : ℕ) (triangles : List ℕ) (s : Vertices) (left k 
       record { count = rw q; indices = rw q }
 
   pub answer :
-      (i : ℕ) → left ≡ 3 → n ≡ length ps → cutRing 0 ps (ringIn n s) ≡ done (cornerAt s i ∷ []) → (b f : ℕ) → b ≡ prevOf s i → f ≡ nextOf s i
-      → (triangles' out out' : List ℕ) → triangles' ≡ put3 triangles k b i f → out' ≡ over (take (k + 3) triangles') out → Written ps out (n - 2) out'
+      (i : ℕ) → left ≡ 3 → n ≡ length ps → cutRing 0 ps (ringIn n s) ≡ done (cornerAt s i ∷ [])
+      → (triangles' out out' : List ℕ) → triangles' ≡ put3 triangles k (prevOf s i) i (nextOf s i) → out' ≡ over (take (k + 3) triangles') out → Written ps out (n - 2) out'
   unfolding trianglesFor
-  answer i three is e b f eb ef triangles' out out' put copied =
+  answer i three is e triangles' out out' put copied =
       let w = h .written ++ cornerAt s i ∷ [] in
       let zero-left : left - 3 ≡ 0 = omega arith in
       let cuts : cut ps ≡ done w = h .work ∙ ap (writeAll (h .written)) (ap (λ (x : ℕ). cutRing x ps (ringIn n s)) zero-left ∙ e) ∙ all-done (h .written) (cornerAt s i ∷ []) in
       let q : trianglesFor ps ≡ map ringOf w = ap (λ c. map ringOf (trianglesOf c)) cuts in
       let n≡ : length w ≡ length ps - 2 = cut-count ps w (omega (arith, h .more, h .most)) cuts in
-      let f₁ : take (k + 3) triangles' ≡ flatten (map ringOf w) = rw (put, eb, ef) (put-store i) in
+      let f₁ : take (k + 3) triangles' ≡ flatten (map ringOf w) = rw put (put-store i) in
       record {
         count = rw (q, length-map w ringOf) (omega (arith, n≡));
         indices = rw q (copied ∙ ap (λ (x : List ℕ). over x out) f₁);

@@ -3,7 +3,6 @@ use grid::point::Point;
 use vertices::Pick;
 use vertices::clip;
 use vertices::lowest;
-use vertices::neighbour;
 use vertices::pointiest;
 use vertices::start;
 ghost use mathlib.Core.Path.{_≡_};
@@ -14,6 +13,7 @@ ghost use lib.ListN.{length, take, drop};
 ghost use Rattle.rules.specs.Grid.{pointsOf};
 ghost use Rattle.rules.specs.Refusals.{same as sameOf, offGrid, equalNeighbours, firstRefusal, beforeCutting};
 ghost use Rattle.grid.specs.Points.{onGridPt, ptOf};
+ghost use Rattle.vertices.specs.Vertices.{place};
 ghost use Rattle.ear_clipping.specs.Store.{put3};
 ghost use Rattle.ear_clipping.specs.Promise.{Written, Promise};
 
@@ -114,14 +114,20 @@ fn values() -> [f32; 512]
     [0.0f32; 512]
 }
 
-// Writes a triangle at place k.
-fn put(triangles: &mut [u32; 1530], k: usize, a: usize, b: usize, c: usize)
-    requires { ⌜ (k + 2 < 1530) × (a < 512) × (b < 512) × (c < 512) ⌝ }
-    ensures { λ r. ⌜ now (triangles .exit) ≡ put3 (now (triangles .entry)) k a b c ⌝ }
+fn wide(x: u16) -> u32
+    ensures { λ r. ⌜ r ≡ x ⌝ }
 {
-    triangles[k] = a as u32;
-    triangles[k + 1] = b as u32;
-    triangles[k + 2] = c as u32;
+    x as u32
+}
+
+// Writes corner i, between its neighbours, at place k.
+fn put(triangles: &mut [u32; 1530], k: usize, i: usize, prev: &[u16; 512], next: &[u16; 512])
+    requires { ⌜ (k + 2 < 1530) × (i < 512) ⌝ }
+    ensures { λ r. ⌜ now (triangles .exit) ≡ put3 (now (triangles .entry)) k (place (now (prev .entry)) i) i (place (now (next .entry)) i) ⌝ }
+{
+    triangles[k] = wide(prev[i]);
+    triangles[k + 1] = i as u32;
+    triangles[k + 2] = wide(next[i]);
 }
 
 // Cuts an outline of n corners. Answers the number of triangles, or 0 where a ring has no ear; then nothing is written.
@@ -153,9 +159,7 @@ fn cut(coords: &[f32], n: usize, indices: &mut [u32]) -> u32
         let Pick::At(i, _) = best else {
             return 0;
         };
-        let before = neighbour(&prev, i);
-        let after = neighbour(&next, i);
-        put(&mut triangles, k, before, i, after);
+        put(&mut triangles, k, i, &prev, &next);
         clip(
             coords,
             n,
@@ -170,9 +174,7 @@ fn cut(coords: &[f32], n: usize, indices: &mut [u32]) -> u32
         left -= 1;
     }
     let i = lowest(&active, n);
-    let before = neighbour(&prev, i);
-    let after = neighbour(&next, i);
-    put(&mut triangles, k, before, i, after);
+    put(&mut triangles, k, i, &prev, &next);
     words::copy(&triangles[..k + 3], indices);
     (n - 2) as u32
 }

@@ -50,14 +50,6 @@ fn better(b: Pick, i: usize, v: f32) -> Pick
     }
 }
 
-// The neighbour of corner i, by the links to those before or to those after.
-pub fn neighbour(links: &[u16; 512], i: usize) -> usize
-    requires { ⌜ i < 512 ⌝ }
-    ensures { λ r. ⌜ r ≡ place (now (links .entry)) i ⌝ }
-{
-    wide(links[i])
-}
-
 // Takes corner i out of the ring.
 fn unlink(prev: &mut [u16; 512], next: &mut [u16; 512], active: &mut [bool; 512], i: usize)
     requires { ⌜ i < 512 ⌝ }

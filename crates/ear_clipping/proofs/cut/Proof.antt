@@ -12,7 +12,7 @@ use denote.Ref.{now}
 use Rattle.rules.specs.Plane.{Pt}
 use Rattle.rules.specs.Grid.{pointsOf}
 use Rattle.rules.specs.Cut.{done, cutRing}
-use Rattle.vertices.specs.Vertices.{Vertices, state, prevOf, nextOf, activeOf, cornerAt, ringIn, pickFrom}
+use Rattle.vertices.specs.Vertices.{Vertices, state, activeOf, cornerAt, ringIn, pickFrom}
 use Rattle.vertices.specs.declared.Pick.the-variants.{Nothing, At}
 use Rattle.ear_clipping.proofs.Clips.{Inv, inv-first, inv-more, stuck-here, put-fits, answer, cut-none, last-some, picked}
 use Rattle.ear_clipping.proofs.cut.Statement.{statement}
@@ -30,8 +30,6 @@ record Turn (n : ℕ) (s : Vertices) (k i : ℕ) (v : Float) : Type 0 where
   within : i < n
   active : activeOf s i ≡ true
   low : i < 512
-  prev : prevOf s i < 512
-  next : nextOf s i < 512
   room : k + 2 < 1530
 
 turn : (c : tie.After-known-told Inv-loop μ-loop) → Turn (c .before .before .before .before .before .before .before .before .before .before .before .before .before .before .before .before .before .before .before .before .before .before .before .args .n) (state (c .before .before .before .before .before .before .before .before .loop .prev) (c .before .before .before .before .before .before .before .before .loop .next) (c .before .before .before .before .before .before .before .before .loop .active) (c .before .before .before .before .before .before .before .before .loop .ears) (c .before .before .before .before .before .before .before .before .loop .pointiness)) (c .before .before .before .before .before .before .before .before .loop .k) (c .before .best .given .0 .0) (c .before .best .given .0 .1 .0)
@@ -40,16 +38,13 @@ turn c =
     let e = sym (c .before .before .before .pointiest .ensures) ∙ c .before .best .given .1 in
     let z = c .before .before .before .before .before .before .before .before .before .before .before .before .before .before .before .before .before .before .before .before .before .before .before .pre .1 .0 .1 in
     let is = picked _ _ _ (l .inv .stands) _ _ e in
-    let w = l .inv .stands .within _ (is .0) in
-    record { picks = e; within = is .0; active = is .1; low = omega (arith, is .0, z); prev = omega (arith, w .0, z); next = omega (arith, w .1, z); room = put-fits _ _ _ _ _ _ (l .inv) z }
+    record { picks = e; within = is .0; active = is .1; low = omega (arith, is .0, z); room = put-fits _ _ _ _ _ _ (l .inv) z }
 
 -- and of the last
 record Final (ps : List Pt) (n : ℕ) (s : Vertices) (k left i : ℕ) : Type 0 where
   three : left ≡ 3
   is : cutRing 0 ps (ringIn n s) ≡ done (cornerAt s i ∷ [])
   low : i < 512
-  prev : prevOf s i < 512
-  next : nextOf s i < 512
   room : k + 2 < 1530
 
 final : (c : tie.After-lowest Inv-loop μ-loop) → Final (pointsOf (now (c .before .before .before .before .before .before .before .before .before .before .before .before .before .before .before .before .before .before .args .coords))) (c .before .before .before .before .before .before .before .before .before .before .before .before .before .before .before .before .before .before .args .n) (state (c .before .before .before .loop .prev) (c .before .before .before .loop .next) (c .before .before .before .loop .active) (c .before .before .before .loop .ears) (c .before .before .before .loop .pointiness)) (c .before .before .before .loop .k) (c .before .before .before .loop .left) (c .lowest .result)
@@ -58,12 +53,11 @@ final c =
     let z = c .before .before .before .before .before .before .before .before .before .before .before .before .before .before .before .before .before .before .pre .1 .0 .1 in
     let three : l .left ≡ 3 = omega (arith, c .before .before .loop-test .left, l .inv .more) in
     let r = last-some _ _ _ (l .inv .stands) (l .inv .ring-size ∙ three) in
-    let w = l .inv .stands .within _ (r .0) in
-    rw (c .lowest .ensures) (record { three = three; is = r .2; low = omega (arith, r .0, z); prev = omega (arith, w .0, z); next = omega (arith, w .1, z); room = put-fits _ _ _ _ _ _ (l .inv) z })
+    rw (c .lowest .ensures) (record { three = three; is = r .2; low = omega (arith, r .0, z); room = put-fits _ _ _ _ _ _ (l .inv) z })
 
 -- all that was written fits
 whole : (c : tie.After-put2 Inv-loop μ-loop) → length (c .put2 .last .0) ≡ 1530
-whole c = ap length (c .put2 .ensures) ∙ simp length-set (c .before .before .before .before .before .before .before .before .before .loop .inv .size)
+whole c = ap length (c .put2 .ensures) ∙ simp length-set (c .before .before .before .before .before .before .before .loop .inv .size)
 
 zeros-requires : tie.Need-zeros-requires Inv-loop μ-loop
 zeros-requires c κs = search needs
@@ -103,72 +97,59 @@ enum-told c = search needs
 returns : tie.Need-returns Inv-loop μ-loop
 returns c = stuck-here _ _ _ _ _ _ (c .before .before .before .before .before .before .before .loop .inv) (c .before .before .before .before .before .before .before .before .before .before .before .before .before .before .before .before .before .before .before .before .before .before .pre .1 .0 .1) _ (cut-none _ _ _ (c .before .before .before .before .before .before .before .loop .inv .stands) (c .before .before .before .before .before .before .before .loop .left) (c .before .before .before .before .before .before .loop-test .taken) (sym (c .before .before .pointiest .ensures) ∙ c .enum-told .given .1))
 
-neighbour-requires : tie.Need-neighbour-requires Inv-loop μ-loop
-neighbour-requires c κs = turn (c .before) .low
-
-neighbour-requires-2 : tie.Need-neighbour-requires-2 Inv-loop μ-loop
-neighbour-requires-2 c κs = turn (c .before .before .before) .low
-
 put-requires : tie.Need-put-requires Inv-loop μ-loop
-put-requires c κs = let t = turn (c .before .before .before .before .before) in (t .room, rw (c .before .before .before .neighbour .ensures) (t .prev), t .low, rw (c .before .neighbour2 .ensures) (t .next))
+put-requires c κs = let t = turn (c .before .before .before) in (t .room, t .low)
 
 clip-requires : tie.Need-clip-requires Inv-loop μ-loop
-clip-requires c κs = let t = turn (c .before .before .before .before .before .before .before .before .before .before .before) in let p = c .before .before .before .before .before .before .before .before .before .before .before .before .before .before .before .before .before .before .before .before .before .before .before .before .before .before .before .before .before .before .before .before .before .before .pre in (p .0, ((p .1 .0 .1, p .1 .0 .2), ((t .within, t .active), c .before .before .before .before .before .before .before .before .before .before .before .before .before .before .before .before .before .before .before .loop .inv .stands)))
+clip-requires c κs = let t = turn (c .before .before .before .before .before .before .before .before .before) in let p = c .before .before .before .before .before .before .before .before .before .before .before .before .before .before .before .before .before .before .before .before .before .before .before .before .before .before .before .before .before .before .before .before .pre in (p .0, ((p .1 .0 .1, p .1 .0 .2), ((t .within, t .active), c .before .before .before .before .before .before .before .before .before .before .before .before .before .before .before .before .before .loop .inv .stands)))
 
 add-k : tie.Need-add-k Inv-loop μ-loop
-add-k c = omega (arith, turn (c .before .before .before .before .before .before .before .before .before .before .before .before) .room)
+add-k c = omega (arith, turn (c .before .before .before .before .before .before .before .before .before .before) .room)
 
 sub-left : tie.Need-sub-left Inv-loop μ-loop
-sub-left c = omega (arith, c .before .before .before .before .before .before .before .before .before .before .before .before .before .before .before .before .before .before .before .loop-test .taken)
+sub-left c = omega (arith, c .before .before .before .before .before .before .before .before .before .before .before .before .before .before .before .before .before .loop-test .taken)
 
 loop-less : tie.Need-loop-less Inv-loop μ-loop
-loop-less c = omega (arith, c .before .before .before .before .before .before .before .before .before .before .before .before .before .before .before .before .before .before .before .loop-test .taken)
+loop-less c = omega (arith, c .before .before .before .before .before .before .before .before .before .before .before .before .before .before .before .before .before .loop-test .taken)
 
 loop-again : tie.Need-loop-again Inv-loop μ-loop
-loop-again c =
-    inv-more _ _ _ _ _ _ (c .before .before .before .before .before .before .before .before .before .before .before .before .before .before .before .before .before .before .before .before .loop .inv) (c .before .before .before .before .before .before .before .before .before .before .before .before .before .before .before .before .before .before .before .before .before .before .before .before .before .before .before .before .before .before .before .before .before .before .before .pre .1 .0 .1) _ _ (c .before .before .before .before .before .before .before .before .before .before .before .before .before .before .before .before .before .before .before .loop-test .taken) (turn (c .before .before .before .before .before .before .before .before .before .before .before .before) .picks) _ _ (c .before .before .before .before .before .before .before .before .before .before .neighbour .ensures) (c .before .before .before .before .before .before .before .before .neighbour2 .ensures) _ _ (c .before .before .before .before .before .before .put .ensures) (c .clip .ensures)
+loop-again c = inv-more _ _ _ _ _ _ (c .before .before .before .before .before .before .before .before .before .before .before .before .before .before .before .before .before .before .loop .inv) (c .before .before .before .before .before .before .before .before .before .before .before .before .before .before .before .before .before .before .before .before .before .before .before .before .before .before .before .before .before .before .before .before .before .pre .1 .0 .1) _ _ (c .before .before .before .before .before .before .before .before .before .before .before .before .before .before .before .before .before .loop-test .taken) (turn (c .before .before .before .before .before .before .before .before .before .before) .picks) _ _ (c .before .before .before .before .before .before .put .ensures) (c .clip .ensures)
 
 lowest-requires : tie.Need-lowest-requires Inv-loop μ-loop
 lowest-requires c κs = c .before .before .before .before .before .before .before .before .before .before .before .before .before .before .before .before .before .pre .1 .0 .1
 
-neighbour-requires-3 : tie.Need-neighbour-requires-3 Inv-loop μ-loop
-neighbour-requires-3 c κs = final (c .before) .low
-
-neighbour-requires-4 : tie.Need-neighbour-requires-4 Inv-loop μ-loop
-neighbour-requires-4 c κs = final (c .before .before .before) .low
-
 put-requires-2 : tie.Need-put-requires-2 Inv-loop μ-loop
-put-requires-2 c κs = let t = final (c .before .before .before .before .before) in (t .room, rw (c .before .before .before .neighbour3 .ensures) (t .prev), t .low, rw (c .before .neighbour4 .ensures) (t .next))
+put-requires-2 c κs = let t = final (c .before .before .before) in (t .room, t .low)
 
 add-triangles : tie.Need-add-triangles Inv-loop μ-loop
-add-triangles c = omega (arith, final (c .before .before .before .before .before .before) .room)
+add-triangles c = omega (arith, final (c .before .before .before .before) .room)
 
 array-share-prefix-triangles : tie.Need-array-share-prefix-triangles Inv-loop μ-loop
-array-share-prefix-triangles c = omega (arith, final (c .before .before .before .before .before .before) .room, whole c)
+array-share-prefix-triangles c = omega (arith, final (c .before .before .before .before) .room, whole c)
 
 slice-aggregate-copy : tie.Need-slice-aggregate-copy Inv-loop μ-loop
-slice-aggregate-copy c = sym (length-take-le _ _ (omega (arith, final (c .before .before .before .before .before .before .before) .room, whole (c .before))))
+slice-aggregate-copy c = sym (length-take-le _ _ (omega (arith, final (c .before .before .before .before .before) .room, whole (c .before))))
 
 copy-requires : tie.Need-copy-requires Inv-loop μ-loop
 copy-requires c κs =
-    let f = final (c .before .before .before .before .before .before .before .before) in
-    let l = c .before .before .before .before .before .before .before .before .before .before .before .loop in
-    omega (arith, length-take-le (l .k + 3) (c .before .before .put2 .last .0) (omega (arith, f .room, whole (c .before .before))), f .three, l .inv .count, c .before .before .before .before .before .before .before .before .before .before .before .before .before .before .before .before .before .before .before .before .before .before .before .before .before .before .pre .1)
+    let f = final (c .before .before .before .before .before .before) in
+    let l = c .before .before .before .before .before .before .before .before .before .loop in
+    omega (arith, length-take-le (l .k + 3) (c .before .before .put2 .last .0) (omega (arith, f .room, whole (c .before .before))), f .three, l .inv .count, c .before .before .before .before .before .before .before .before .before .before .before .before .before .before .before .before .before .before .before .before .before .before .before .before .pre .1)
 
 sub-result : tie.Need-sub-result Inv-loop μ-loop
-sub-result c = omega (arith, c .before .before .before .before .before .before .before .before .before .before .before .before .before .before .before .before .before .before .before .before .before .before .before .before .before .before .before .before .before .pre .1 .0 .0)
+sub-result c = omega (arith, c .before .before .before .before .before .before .before .before .before .before .before .before .before .before .before .before .before .before .before .before .before .before .before .before .before .before .before .pre .1 .0 .0)
 
 cast-result : tie.Need-cast-result Inv-loop μ-loop
-cast-result c = omega (arith, c .before .before .before .before .before .before .before .before .before .before .before .before .before .before .before .before .before .before .before .before .before .before .before .before .before .before .before .before .before .pre .1 .0 .1)
+cast-result c = omega (arith, c .before .before .before .before .before .before .before .before .before .before .before .before .before .before .before .before .before .before .before .before .before .before .before .before .before .before .before .pre .1 .0 .1)
 
 same-length : tie.Need-same-length Inv-loop μ-loop
 same-length c = search needs
 
 returns-2 : tie.Need-returns-2 Inv-loop μ-loop
 returns-2 c =
-    let f = final (c .before .before .before .before .before .before .before .before .before .before .before) in
-    let p = c .before .before .before .before .before .before .before .before .before .before .before .before .before .before .before .before .before .before .before .before .before .before .before .before .before .before .before .before .before .pre .1 .0 in
-    answer _ _ _ _ _ _ (c .before .before .before .before .before .before .before .before .before .before .before .before .before .before .loop .inv) (p .1) _ (f .three) (p .2) (f .is) _ _ (c .before .before .before .before .before .before .before .before .before .neighbour3 .ensures) (c .before .before .before .before .before .before .before .neighbour4 .ensures) _ _ _ (c .before .before .before .before .before .put2 .ensures) (c .before .before .copy .ensures)
+    let f = final (c .before .before .before .before .before .before .before .before .before) in
+    let p = c .before .before .before .before .before .before .before .before .before .before .before .before .before .before .before .before .before .before .before .before .before .before .before .before .before .before .before .pre .1 .0 in
+    answer _ _ _ _ _ _ (c .before .before .before .before .before .before .before .before .before .before .before .before .loop .inv) (p .1) _ (f .three) (p .2) (f .is) _ _ _ (c .before .before .before .before .before .put2 .ensures) (c .before .before .copy .ensures)
 
 pub cut-spec : {M : Type 1} → statement M
 cut-spec =
@@ -188,8 +169,6 @@ cut-spec =
     enum-known-best
     enum-told
     returns
-    neighbour-requires
-    neighbour-requires-2
     put-requires
     clip-requires
     add-k
@@ -197,8 +176,6 @@ cut-spec =
     loop-less
     loop-again
     lowest-requires
-    neighbour-requires-3
-    neighbour-requires-4
     put-requires-2
     add-triangles
     array-share-prefix-triangles

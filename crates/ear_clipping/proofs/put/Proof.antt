@@ -1,0 +1,82 @@
+-- `put` meets its contract.
+use Prim.Native.Nat.{ℕ, _+_}
+use mathlib.Core.Path.{_≡_}
+use mathlib.Core.List.{List}
+use lib.ListN.{set}
+use denote.Ref.{now}
+use Rattle.ear_clipping.specs.Store.{put3}
+use borrow.Author.Needs.{needs}
+use Rattle.ear_clipping.proofs.put.Statement.{statement}
+use Rattle.ear_clipping.proofs.put.Tie as tie
+
+is : (l : List ℕ) (k a b c a' c' : ℕ) → a ≡ a' → c ≡ c' → set (set (set l k a) (k + 1) b) (k + 2) c ≡ put3 l k a' b c'
+is l k a b c a' c' e f = rw (e, f)
+
+mul-wide : tie.Need-mul-wide
+mul-wide c = search needs
+
+element-copy-out-wide : tie.Need-element-copy-out-wide
+element-copy-out-wide c = search needs
+
+wide-requires : tie.Need-wide-requires
+wide-requires c κs = search needs
+
+mul-triangles : tie.Need-mul-triangles
+mul-triangles c = search needs
+
+element-write-triangles : tie.Need-element-write-triangles
+element-write-triangles c = search needs
+
+cast-triangles : tie.Need-cast-triangles
+cast-triangles c = search needs
+
+add-triangles : tie.Need-add-triangles
+add-triangles c = search needs
+
+mul-triangles-2 : tie.Need-mul-triangles-2
+mul-triangles-2 c = search needs
+
+element-write-triangles-2 : tie.Need-element-write-triangles-2
+element-write-triangles-2 c = search needs
+
+mul-wide-2 : tie.Need-mul-wide-2
+mul-wide-2 c = search needs
+
+element-copy-out-wide-2 : tie.Need-element-copy-out-wide-2
+element-copy-out-wide-2 c = search needs
+
+wide-requires-2 : tie.Need-wide-requires-2
+wide-requires-2 c κs = search needs
+
+add-triangles-2 : tie.Need-add-triangles-2
+add-triangles-2 c = search needs
+
+mul-triangles-3 : tie.Need-mul-triangles-3
+mul-triangles-3 c = search needs
+
+element-write-triangles-3 : tie.Need-element-write-triangles-3
+element-write-triangles-3 c = search needs
+
+returns : tie.Need-returns
+returns c = let a = c .before .before .before .before .args in is (now (a .triangles)) (a .k) _ (a .i) _ _ _ (c .before .before .wide .ensures) (c .wide2 .ensures)
+
+pub put-spec : {M : Type 1} → statement M
+put-spec =
+    tie.close
+    (tie.spec
+    mul-wide
+    element-copy-out-wide
+    wide-requires
+    mul-triangles
+    element-write-triangles
+    cast-triangles
+    add-triangles
+    mul-triangles-2
+    element-write-triangles-2
+    mul-wide-2
+    element-copy-out-wide-2
+    wide-requires-2
+    add-triangles-2
+    mul-triangles-3
+    element-write-triangles-3
+    returns)
