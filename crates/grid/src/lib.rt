@@ -24,7 +24,7 @@ pub fn on_grid(x: f32) -> bool
     false
 }
 
-fn either(s: bool, t: bool) -> bool
+pub fn either(s: bool, t: bool) -> bool
     ensures { λ r. ⌜ r ≡ (s || t) ⌝ }
 {
     if s { true } else { t }

@@ -16,7 +16,7 @@ use Rattle.rules.specs.Refusals.{oddNumber, offGrid, firstRefusal, mergerChecks
 use Rattle.rules.specs.Entries.{Merging, unless, merger, writtenPieces}
 use Rattle.rules.proofs.Rows.{row-on, row-off}
 use Rattle.rules.proofs.Coordinates.{many-on, many-off}
-use Rattle.rules.proofs.Layouts.{take-over, pieces-back}
+use Rattle.rules.proofs.Layouts.{take-over, length-over, pieces-back}
 use Rattle.rules.proofs.Accepted.{in-range}
 use Rattle.hertel_mehlhorn.specs.Promise.{Promise}
 use Rattle.hertel_mehlhorn.specs.declared.Answer as Inner
@@ -90,9 +90,6 @@ module _ (cs : List Float) (tri : List ℕ) where
   fitting (suc n) room places e = record { corners-are = refl; fits = omega arith; fits-lengths = omega arith }
 
 -- ---- what was written over a front
-
-over-length : (F old : List ℕ) → length F ≤ length old → length (over F old) ≡ length old
-over-length F old h = length-append F (drop (length F) old) ∙ omega (arith, length-drop (length F) old)
 
 front-back : (F old rest : List ℕ) → take (length F) (over F old ++ rest) ≡ F
 front-back F old rest = ap (take (length F)) (append-assoc F (drop (length F) old) rest) ∙ take-append-seam F (drop (length F) old ++ rest)
@@ -231,12 +228,12 @@ module _ (cs : List Float) (tri indices lengths : List ℕ) where
 
     pub out-kept : 1530 ≡ length (after ++ drop room out)
     out-kept =
-        sym (length-append after (drop room out) ∙ omega (arith, ap length after-is, over-length (flatten R) lent (fit .fits), lent-is, length-drop room out, least-below (length indices / 4)))
+        sym (length-append after (drop room out) ∙ omega (arith, ap length after-is, length-over (flatten R) lent (fit .fits), lent-is, length-drop room out, least-below (length indices / 4)))
 
     pub sizes-kept : 1530 ≡ length (after-lengths ++ drop places sizes)
     sizes-kept =
         sym (length-append after-lengths (drop places sizes)
-        ∙ omega (arith, ap length lengths-are, over-length (map length R) lent-lengths (rw (length-map R length) (fit .fits-lengths)), places-are, length-drop places sizes, least-below (length lengths / 4)))
+        ∙ omega (arith, ap length lengths-are, length-over (map length R) lent-lengths (rw (length-map R length) (fit .fits-lengths)), places-are, length-drop places sizes, least-below (length lengths / 4)))
 
     pub corners-fit : (k : ℕ) → k ≡ cornersOf (a .number) t (a .count) → (k ≤ length (after ++ drop room out)) × (k * 4 ≤ length indices)
     corners-fit k e =

@@ -4,7 +4,7 @@ use native.Mathlib.Omega.{arith}
 use native.Mathlib.Numerals.{add-one}
 use native.Mathlib.Nat.{add-zero}
 use mathlib.Core.Path.{_≡_, refl, ap, sym, _∙_}
-use mathlib.Core.Bool.{Bool, true, false, _||_}
+use mathlib.Core.Bool.{Bool, true, false, _||_, or-false, or-assoc}
 use mathlib.Core.List.{List, [], _∷_, _++_}
 use mathlib.Core.Option.{none, some}
 use lib.Dec.{eqb, ltb}
@@ -19,19 +19,11 @@ use Rattle.joins.specs.Search.{begins, holds, Passed}
 use Rattle.pieces.proofs.Rings.{length-ring, getD-ring, corner-front}
 use Rattle.joins.proofs.Edges.{begins-not, edge-not, edge-found, edge-nowhere}
 
--- ---- eight numbers
-
-or-none : (a : Bool) → (a || false) ≡ a
-or-none true = refl
-or-none false = refl
-
-or-assoc : (a b c : Bool) → (a || (b || c)) ≡ ((a || b) || c)
-or-assoc true b c = refl
-or-assoc false b c = refl
+-- ---- n numbers from place k on
 
 any-snoc : (e : ℕ) (l : List ℕ) (x : ℕ) → holds e (l ++ x ∷ []) ≡ (holds e l || eqb x e)
-any-snoc e [] x = or-none (eqb x e)
-any-snoc e (a ∷ l) x = rw (any-snoc e l x) (or-assoc (eqb a e) (holds e l) (eqb x e))
+any-snoc e [] x = or-false (eqb x e)
+any-snoc e (a ∷ l) x = rw (any-snoc e l x) (sym (or-assoc (eqb a e) (holds e l) (eqb x e)))
 
 holds-more : (e : ℕ) (l : List ℕ) (i : ℕ) → i < length l → (holds e (take i l) || eqb (getD l i 0) e) ≡ holds e (take (i + 1) l)
 holds-more e l i h = rw (add-one i, take-suc l i 0 h) (sym (any-snoc e (take i l) (getD l i 0)))
@@ -45,13 +37,13 @@ holds-not e (a ∷ l) q (suc j) h f = holds-not e l (behind (eqb a e) q) j (omeg
     behind true r = let z : _≡_ {A = ℕ} 0 1 = cc in absurd (omega arith)
     behind false r = r
 
-module _ (store : List ℕ) (k e : ℕ) (room : k + 8 ≤ length store) where
-  pub eight-more : (i : ℕ) → i < 8 → (hit hit' : Bool) → hit ≡ holds e (take i (ring store k 8)) → hit' ≡ (hit || eqb (getD store (k + i) 0) e) → hit' ≡ holds e (take (i + 1) (ring store k 8))
-  eight-more i h hit hit' is q =
-      q ∙ rw (is, ← getD-ring store k 8 i h) (holds-more e (ring store k 8) i (omega (arith, length-ring store k 8 room)))
+module _ (store : List ℕ) (k n e : ℕ) (room : k + n ≤ length store) where
+  pub holds-next : (i : ℕ) → i < n → (hit hit' : Bool) → hit ≡ holds e (take i (ring store k n)) → hit' ≡ (hit || eqb (getD store (k + i) 0) e) → hit' ≡ holds e (take (i + 1) (ring store k n))
+  holds-next i h hit hit' is q =
+      q ∙ rw (is, ← getD-ring store k n i h) (holds-more e (ring store k n) i (omega (arith, length-ring store k n room)))
 
-  pub eight-end : (i : ℕ) → 8 ≤ i → (hit : Bool) → hit ≡ holds e (take i (ring store k 8)) → hit ≡ holds e (ring store k 8)
-  eight-end i h hit is = is ∙ ap (holds e) (take-all i (ring store k 8) (omega (arith, length-ring store k 8 room)))
+  pub holds-all : (i : ℕ) → n ≤ i → (hit : Bool) → hit ≡ holds e (take i (ring store k n)) → hit ≡ holds e (ring store k n)
+  holds-all i h hit is = is ∙ ap (holds e) (take-all i (ring store k n) (omega (arith, length-ring store k n room)))
 
 -- ---- places
 
@@ -75,14 +67,14 @@ passed-one store e k not = record { not-at = λ j h l f. go j h l f }
     go : (j : ℕ) → k ≤ j → j < k + 1 → getD store j 0 ≡ e → ⊥
     go j h l f = let q : j ≡ k = omega arith in not (rw q at f)
 
-pub passed-eight : (store : List ℕ) (e k : ℕ) → k + 8 ≤ length store → (hit : Bool) → hit ≡ holds e (ring store k 8) → hit ≡ false → Passed store e k (k + 8)
-passed-eight store e k room hit is q = record { not-at = λ j h l f. go j h l f }
+pub passed-all : (store : List ℕ) (e k n : ℕ) → k + n ≤ length store → (hit : Bool) → hit ≡ holds e (ring store k n) → hit ≡ false → Passed store e k (k + n)
+passed-all store e k n room hit is q = record { not-at = λ j h l f. go j h l f }
   where
-    go : (j : ℕ) → k ≤ j → j < k + 8 → getD store j 0 ≡ e → ⊥
+    go : (j : ℕ) → k ≤ j → j < k + n → getD store j 0 ≡ e → ⊥
     go j h l f =
-        let s = length-ring store k 8 room in
+        let s = length-ring store k n room in
         let p : k + (j - k) ≡ j = omega arith in
-        holds-not e (ring store k 8) (sym is ∙ q) (j - k) (omega arith) (getD-ring store k 8 (j - k) (omega arith) ∙ ap (λ (x : ℕ). getD store x 0) p ∙ f)
+        holds-not e (ring store k n) (sym is ∙ q) (j - k) (omega arith) (getD-ring store k n (j - k) (omega arith) ∙ ap (λ (x : ℕ). getD store x 0) p ∙ f)
 
 -- ---- within a piece of n from `at`: where e stands before k, the edge to s does not begin
 

@@ -4,7 +4,7 @@ use pieces::ring::Ring;
 use pieces::ring::corner;
 use pieces::ring::wide;
 ghost use mathlib.Core.Path.{_≡_};
-ghost use mathlib.Core.Bool.{false, _||_};
+ghost use mathlib.Core.Bool.{false};
 ghost use Prim.Native.Nat.{_+_, _<_, _≤_};
 ghost use lib.ListN.{length, getD};
 ghost use lib.Seq.{slice};
@@ -40,12 +40,6 @@ fn starts_with(store: &[u32], r: Ring, e: u32, s: u32) -> bool
     }
 }
 
-fn either(s: bool, t: bool) -> bool
-    ensures { λ r. ⌜ r ≡ (s || t) ⌝ }
-{
-    if s { true } else { t }
-}
-
 // Whether e is one of the eight numbers from a place on. There is no early end, so that all are looked at at once.
 fn in_eight(store: &[u32], from: usize, e: u32) -> bool
     requires { ⌜ from + 8 ≤ length (now store) ⌝ }
@@ -54,7 +48,7 @@ fn in_eight(store: &[u32], from: usize, e: u32) -> bool
     let mut hit = false;
     let mut i = 0;
     while i < 8 {
-        hit = either(hit, store[from + i] == e);
+        hit = grid::either(hit, store[from + i] == e);
         i += 1;
     }
     hit

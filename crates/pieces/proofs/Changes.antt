@@ -17,7 +17,7 @@ use Rattle.pieces.specs.State.{others, Joinable, Changed}
 use Rattle.pieces.proofs.Rings.{length-ring, length-begun}
 use Rattle.pieces.proofs.Below.{each-joined}
 use Rattle.pieces.proofs.Lists.{sum-append, sum-begun, slice-join, ring-slice, split-append, split-front, split-take, split-begun, length-split, long-append, long-parts, long-begun}
-use Rattle.pieces.proofs.Writes.{length-over}
+use Rattle.rules.proofs.Layouts.{length-over}
 
 -- `new` written at place w over a list, and read again from there
 module _ (front new old : List ℕ) (w : ℕ) (at : length front ≡ w) where

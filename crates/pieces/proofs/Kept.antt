@@ -10,7 +10,7 @@ use Rattle.pieces.specs.Pieces.{ring}
 use Rattle.pieces.specs.Write.{joinedStore, joinedLens}
 use Rattle.pieces.specs.declared.ring.Ring.{Ring}
 use Rattle.pieces.proofs.Lists.{ring-slice}
-use Rattle.pieces.proofs.Writes.{length-over}
+use Rattle.rules.proofs.Layouts.{length-over}
 
 module _ (l old kept : List ℕ) (n : ℕ) (fits : n ≤ length l) (is : kept ≡ over (take n l) old) where
   ring-kept : (at k : ℕ) → at + k ≤ n → ring kept at k ≡ ring l at k

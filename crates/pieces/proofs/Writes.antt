@@ -10,6 +10,7 @@ use borrow.Rule.Slice.PartMut.{putMid, postOf}
 use Rattle.algebra.specs.Rings.{begunAt}
 use Rattle.pieces.specs.Pieces.{ring, sum}
 use Rattle.rules.specs.Layout.{over}
+use Rattle.rules.proofs.Layouts.{length-over}
 use Rattle.pieces.specs.Write.{lastStart}
 use Rattle.pieces.proofs.Rings.{length-ring, length-begun}
 use Rattle.pieces.proofs.Lists.{sum-append, slice-snoc, slice-none, ring-slice}
@@ -17,9 +18,6 @@ use Rattle.pieces.proofs.Lists.{sum-append, slice-snoc, slice-none, rin
 module _ (from : List ℕ) (at n i skip : ℕ) (fits : at + n ≤ length from) where
   pub length-written : length (drop skip (begunAt i (ring from at n))) ≡ n - skip
   length-written = simp length-drop (rw (length-begun i (ring from at n), length-ring from at n fits))
-
-pub length-over : (written old : List ℕ) → length written ≤ length old → length (over written old) ≡ length old
-length-over written old h = simp (length-append, length-drop) (omega arith)
 
 -- `front`, w numbers long, has been written over the front of `old`
 pub record Built (old new front : List ℕ) (w : ℕ) : Type 0 where

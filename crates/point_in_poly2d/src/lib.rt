@@ -3,7 +3,7 @@ use grid::point::Point;
 use grid::point_in_triangle::Orientation;
 use grid::point_in_triangle::corner_direction;
 ghost use mathlib.Core.Path.{_≡_};
-ghost use mathlib.Core.Bool.{true, false, not, _&&_, _||_};
+ghost use mathlib.Core.Bool.{true, false};
 ghost use Rattle.algebra.specs.Sums.{xor};
 ghost use Rattle.rules.specs.Grid.{pointsOf};
 ghost use Rattle.rules.specs.Crossing.{crossed, inside as insideOf, insideConvex};

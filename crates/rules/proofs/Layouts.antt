@@ -1,9 +1,9 @@
 -- What is written can be read back: triangles three and three, and pieces by their lengths.
-use Prim.Native.Nat.{ℕ, _*_}
+use Prim.Native.Nat.{ℕ, _*_, _≤_}
 use mathlib.Core.Path.{_≡_, refl, _∙_, ap, ap₂}
 use mathlib.Core.List.{List, [], _∷_, _++_, map, append-assoc}
 use native.Mathlib.Omega.{arith}
-use lib.ListN.{length, take, drop}
+use lib.ListN.{length, take, drop, length-append, length-drop}
 use lib.Seq.{take-append-seam, drop-append-seam}
 use Rattle.algebra.specs.Lists.{Each, end, _&_}
 use Rattle.algebra.specs.Rings.{Corner, ringOf}
@@ -11,6 +11,9 @@ use Rattle.rules.specs.Layout.{flatten, split, triples, over}
 
 pub take-over : (written old : List ℕ) → take (length written) (over written old) ≡ written
 take-over written old = take-append-seam written (drop (length written) old)
+
+pub length-over : (written old : List ℕ) → length written ≤ length old → length (over written old) ≡ length old
+length-over written old h = simp (length-append, length-drop) (omega arith)
 
 -- ---- triangles
 

@@ -4,7 +4,6 @@ use grid::point_in_triangle::corner_direction;
 use grid::point_in_triangle::is_point_in_triangle;
 ghost use mathlib.Core.Path.{_≡_};
 ghost use mathlib.Core.Bool.{true, false};
-ghost use Prim.Native.Nat.{_<_};
 ghost use lib.ListN.{length};
 ghost use Rattle.rules.specs.Grid.{pointsOf};
 ghost use Rattle.rules.specs.Ear as Rules;

@@ -13,7 +13,7 @@ ghost use Rattle.rules.specs.Grid.{pointsOf};
 ghost use Rattle.rules.specs.Refusals.{offGrid};
 ghost use Rattle.vertices.specs.Ears.{earOf};
 ghost use Rattle.vertices.specs.Vertices.{state, place, on, linkedCorner, isEar, setPointiness, clipped, betterOf, pickFrom, Sized, Stands, Linked, Updated, lowestFrom, ringIn};
-ghost use Rattle.vertices.specs.declared.Pick.the-variants.{Nothing, At};
+ghost use Rattle.vertices.specs.declared.Pick.the-variants.{Nothing};
 
 // The ear of greatest pointiness that was found so far.
 pub enum Pick {

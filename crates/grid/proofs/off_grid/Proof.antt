@@ -1,7 +1,7 @@
 -- `off_grid` meets its contract. The invariant: the whole slice is off the grid where a coordinate before i is, or the part from i on.
 use Prim.Native.Nat.{ℕ, _+_, _-_, _≤_, _<_}
-use mathlib.Core.Path.{_≡_, refl, sym, _∙_}
-use mathlib.Core.Bool.{Bool, true, false, not, _||_}
+use mathlib.Core.Path.{_≡_, sym, _∙_}
+use mathlib.Core.Bool.{Bool, not, _||_, or-false, or-assoc}
 use mathlib.Core.List.{List}
 use native.Mathlib.Numerals.{add-one}
 use lib.ListN.{length, getD, drop, drop-of-length-le}
@@ -13,14 +13,6 @@ use Rattle.rules.specs.Refusals.{offGrid}
 use Rattle.grid.proofs.off_grid.Statement.{statement}
 use Rattle.grid.proofs.off_grid.Tie as tie
 
-assoc : (a b d : Bool) → (a || (b || d)) ≡ ((a || b) || d)
-assoc true b d = refl
-assoc false b d = refl
-
-or-none : (a : Bool) → (a || false) ≡ a
-or-none true = refl
-or-none false = refl
-
 part : (cs : List Float) (i : ℕ) → i < length cs → offGrid (drop i cs) ≡ (not (onGrid (getD cs i nan)) || offGrid (drop (i + 1) cs))
 unfolding offGrid
 part cs i h = rw (add-one, drop-cons cs i nan h)
@@ -28,11 +20,11 @@ part cs i h = rw (add-one, drop-cons cs i nan h)
 more :
     (cs : List Float) (i : ℕ) → i < length cs → (off on off' : Bool) → on ≡ onGrid (getD cs i nan) → off' ≡ (off || not on)
     → (off || offGrid (drop i cs)) ≡ (off' || offGrid (drop (i + 1) cs))
-more cs i h off on off' e f = rw (part cs i h, f, e) (assoc off (not (onGrid (getD cs i nan))) (offGrid (drop (i + 1) cs)))
+more cs i h off on off' e f = rw (part cs i h, f, e) (sym (or-assoc off (not (onGrid (getD cs i nan))) (offGrid (drop (i + 1) cs))))
 
 at-end : (cs : List Float) (i : ℕ) → length cs ≤ i → (off : Bool) → (off || offGrid (drop i cs)) ≡ off
 unfolding offGrid
-at-end cs i h off = rw (drop-of-length-le cs h) (or-none off)
+at-end cs i h off = rw (drop-of-length-le cs h) (or-false off)
 
 abbrev Inv-loop : tie.InvT-loop
 Inv-loop coords off₀ i₀ off i = (i ≤ length coords) × (offGrid coords ≡ (off || offGrid (drop i coords)))

@@ -6,7 +6,7 @@ use lib.ListN.{take}
 use borrow.Author.Needs.{needs}
 use Rattle.pieces.specs.Pieces.{ring}
 use Rattle.joins.specs.Search.{holds}
-use Rattle.joins.proofs.Scans.{eight-more, eight-end}
+use Rattle.joins.proofs.Scans.{holds-next, holds-all}
 use Rattle.joins.proofs.in_eight.Statement.{statement}
 use Rattle.joins.proofs.in_eight.Tie as tie
 
@@ -38,10 +38,10 @@ loop-less : tie.Need-loop-less Inv-loop μ-loop
 loop-less c = omega arith
 
 loop-again : tie.Need-loop-again Inv-loop μ-loop
-loop-again c = let s = c .before .before .before .before .before in (omega arith, eight-more _ _ _ (s .pre) _ (c .before .before .loop-test .taken) _ _ (c .before .before .before .loop .inv .1) (c .either .ensures))
+loop-again c = let s = c .before .before .before .before .before in (omega arith, holds-next _ _ _ _ (s .pre) _ (c .before .before .loop-test .taken) _ _ (c .before .before .before .loop .inv .1) (c .either .ensures))
 
 returns : tie.Need-returns Inv-loop μ-loop
-returns c = eight-end _ _ _ (c .before .before .before .pre) _ (c .loop-test .left) _ (c .before .loop .inv .1)
+returns c = holds-all _ _ _ _ (c .before .before .before .pre) _ (c .loop-test .left) _ (c .before .loop .inv .1)
 
 pub in-eight-spec : {M : Type 1} → statement M
 in-eight-spec =

@@ -2,7 +2,7 @@
 use Prim.Native.Nat.{_-_, _≤_}
 use native.Mathlib.Omega.{arith}
 use Rattle.joins.specs.Search.{Passed}
-use Rattle.joins.proofs.Scans.{passed-none, passed-on, passed-eight}
+use Rattle.joins.proofs.Scans.{passed-none, passed-on, passed-all}
 use Rattle.joins.proofs.pass_eights.Statement.{statement}
 use Rattle.joins.proofs.pass_eights.Tie as tie
 
@@ -34,7 +34,7 @@ loop-again : tie.Need-loop-again Inv-loop μ-loop
 loop-again c =
     let l = c .before .before .before .loop .inv in
     let t = c .before .before .loop-test .taken in
-    (omega (arith, l .0), omega (arith, t, l .1), passed-on _ _ _ _ _ (l .2) (passed-eight _ _ _ (omega (arith, t, l .1, c .before .before .before .before .before .pre .1)) _ (c .before .in-eight .ensures) (c .if1 .left)))
+    (omega (arith, l .0), omega (arith, t, l .1), passed-on _ _ _ _ _ (l .2) (passed-all _ _ _ 8 (omega (arith, t, l .1, c .before .before .before .before .before .pre .1)) _ (c .before .in-eight .ensures) (c .if1 .left)))
 
 returns-2 : tie.Need-returns-2 Inv-loop μ-loop
 returns-2 c = c .before .loop .inv
