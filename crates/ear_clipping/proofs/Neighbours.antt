@@ -9,9 +9,8 @@ use lib.Ieee.{lt}
 use Rattle.algebra.specs.Lists.{any}
 use Rattle.algebra.specs.Rings.{Edge}
 use Rattle.algebra.proofs.Order.{leZ-not-ltZ}
-use Rattle.rules.specs.Plane.{Pt}
-use Rattle.rules.specs.Ear.{point}
-use Rattle.rules.specs.Refusals.{same, equalNeighbours}
+use Rattle.rules.specs.Plane.{Pt, point, same}
+use Rattle.rules.specs.Refusals.{equalNeighbours}
 use Rattle.rules.proofs.Walks.{edgesFrom, edges-first, edges-more, edges-last}
 use Rattle.grid.specs.declared.point.Point.{Point}
 use Rattle.grid.specs.Points.{onGridPt, ptOf}

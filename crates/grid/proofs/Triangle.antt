@@ -6,9 +6,8 @@ use Prim.Native.Nat.{ℕ, _+_, _*_, _<_}
 use native.Mathlib.Omega.{arith}
 use lib.ListN.{length, getD}
 use lib.Ieee.{Float, nan}
-use Rattle.rules.specs.Plane.{Pt, turn, left, right, inTriangle}
+use Rattle.rules.specs.Plane.{Pt, turn, left, right, inTriangle, point}
 use Rattle.rules.specs.Grid.{pointsOf}
-use Rattle.rules.specs.Ear.{point}
 use Rattle.rules.specs.Refusals.{offGrid}
 use Rattle.rules.proofs.Turns.{turn-rotates}
 use Rattle.rules.proofs.Coordinates.{point-is, grid-at}

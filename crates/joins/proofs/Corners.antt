@@ -6,8 +6,7 @@ use mathlib.Core.List.{List}
 use lib.ListN.{length, getD}
 use lib.Ieee.{Float}
 use Rattle.rules.specs.Grid.{pointsOf}
-use Rattle.rules.specs.Plane.{Pt, turn}
-use Rattle.rules.specs.Ear.{point, turnsRight}
+use Rattle.rules.specs.Plane.{Pt, turn, point, turnsRight}
 use Rattle.grid.specs.declared.point_in_triangle.Orientation.{Orientation}
 use Rattle.grid.specs.Points.{orientation, isCw}
 use Rattle.grid.proofs.Turn.{cw-right}

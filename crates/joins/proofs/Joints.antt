@@ -7,8 +7,7 @@ use mathlib.Core.List.{List, [], _∷_, _++_}
 use lib.Dec.{eqb}
 use lib.ListN.{length, getD, take, drop}
 use borrow.Author.Tests.{eqb-true}
-use Rattle.rules.specs.Plane.{Pt, right}
-use Rattle.rules.specs.Ear.{point, turnsRight}
+use Rattle.rules.specs.Plane.{Pt, right, point, turnsRight}
 use Rattle.algebra.specs.Rings.{lastOf}
 use mathlib.Core.Option.{none, some}
 use Rattle.algebra.specs.Lists.{first}

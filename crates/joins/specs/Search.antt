@@ -6,8 +6,7 @@ use mathlib.Core.List.{List, [], _++_}
 use lib.Dec.{eqb}
 use lib.ListN.{drop, getD}
 use Rattle.algebra.specs.Lists.{any}
-use Rattle.rules.specs.Plane.{Pt, right}
-use Rattle.rules.specs.Ear.{point}
+use Rattle.rules.specs.Plane.{Pt, right, point}
 use mathlib.Core.Option.{Option, none, some}
 use Rattle.rules.specs.Merge.{Part, mate, join}
 use Rattle.pieces.specs.Pieces.{begun, pieces}

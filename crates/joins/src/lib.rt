@@ -9,7 +9,7 @@ ghost use Prim.Native.Nat.{_+_, _<_, _≤_};
 ghost use lib.ListN.{length, getD};
 ghost use lib.Seq.{slice};
 ghost use Rattle.rules.specs.Grid.{pointsOf};
-ghost use Rattle.rules.specs.Ear.{turnsRight};
+ghost use Rattle.rules.specs.Plane.{turnsRight};
 ghost use Rattle.rules.specs.Merge.{join, nextJoin};
 ghost use Rattle.rules.specs.Refusals.{offGrid};
 ghost use Rattle.pieces.specs.Pieces.{ring, begun, Within, sum, pieces, Lies, Known};

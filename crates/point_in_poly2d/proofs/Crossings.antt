@@ -10,8 +10,7 @@ use lib.Signed.{ltZ}
 use Rattle.algebra.specs.Sums.{xor, xor-assoc, xor-comm}
 use Rattle.algebra.specs.Rings.{Edge, edges}
 use Rattle.algebra.proofs.Order.{leZ-not-ltZ}
-use Rattle.rules.specs.Plane.{Pt, turn}
-use Rattle.rules.specs.Ear.{point}
+use Rattle.rules.specs.Plane.{Pt, turn, point}
 use Rattle.rules.specs.Crossing.{perp, crossed, odd, inside}
 use Rattle.rules.proofs.Turns.{perp-turn, below-neg, above-neg}
 use Rattle.rules.proofs.Walks.{edgesFrom, edges-first, edges-more, edges-last}

@@ -10,8 +10,7 @@ use lib.Signed.{ltZ}
 use Rattle.algebra.specs.Lists.{any}
 use Rattle.algebra.specs.Rings.{Edge, edges}
 use Rattle.algebra.proofs.Equal.{impossible}
-use Rattle.rules.specs.Plane.{Pt, turn}
-use Rattle.rules.specs.Ear.{point}
+use Rattle.rules.specs.Plane.{Pt, turn, point}
 use Rattle.rules.specs.Crossing.{perp, insideConvex}
 use Rattle.rules.proofs.Walks.{edgesFrom, edges-first, edges-more, edges-last}
 use Rattle.grid.specs.declared.point.Point.{Point}

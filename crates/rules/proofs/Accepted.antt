@@ -1,39 +1,32 @@
--- What the cutter's refusals leave: where none applies, the outline has all that the theorems on cutting ask, and is cut.
+-- What the cutter's and the merger's refusals leave: where none applies, the outline has all that the theorems on cutting ask, and is cut;
+-- the triangles have all that the theorems on merging ask. And refusal 7 exactly, over the cutter's own number.
 use Prim.Native.Nat.{ℕ, _*_, _-_, _/_, _%_, _≤_, _<_}
-use mathlib.Core.Path.{_≡_, refl, sym, _∙_, ap, subst}
+use mathlib.Core.Path.{_≡_, refl, sym, _∙_, ap}
 use mathlib.Core.Logic.{_≢_}
-use mathlib.Core.Bool.{Bool, true, false, not, _||_}
+use mathlib.Core.Bool.{not, true, false, _||_}
 use mathlib.Core.List.{List, [], _∷_, _++_}
-use native.Mathlib.Omega.{arith}
 use lib.Dec.{ltb, eqb}
 use lib.ListN.{length}
-use lib.Signed.{leZ, ≤ℤ-refl}
 use lib.Ieee.{Float}
-use Rattle.algebra.specs.Lists.{Each, end, _&_, any, countFrom}
-use Rattle.algebra.proofs.Lists.{each-imp}
-use Rattle.algebra.proofs.Equal.{impossible, T→true, eqb-true, not-false, or-false, ltb-false, ltb-is-true}
-use Rattle.rules.specs.Plane.{Pt}
+use Rattle.algebra.specs.Lists.{Each, end, _&_, countFrom}
 use Rattle.algebra.specs.Rings.{Corner, steps, edges}
+use Rattle.algebra.proofs.Lists.{each-imp, none-passes}
+use Rattle.algebra.proofs.Equal.{impossible, eqb-true, not-false, or-false, ltb-false, ltb-is-true}
+use Rattle.rules.specs.Limits.{mostPoints, mostTriangles}
+use Rattle.rules.specs.Plane.{Pt, point, same}
 use Rattle.rules.specs.Grid.{pointsOf}
-use Rattle.rules.specs.Ear.{point}
 use Rattle.rules.specs.Cut.{Cut, stuck, done, cut}
 use Rattle.rules.specs.Measure.{points, Apart}
-use Rattle.rules.specs.Refusals.{_gives_, firstRefusal, oddNumber, fewPoints, manyPoints, offGrid, same, equalNeighbours, isStuck, noEar, outOfRange, cutterChecks, beforeCutting, mergerChecks}
-use Rattle.rules.proofs.Rows.{passes, skips, applies, row-off, row-on, front-gives, front-none}
+use Rattle.rules.specs.Refusals.{_gives_, firstRefusal, offGrid, equalNeighbours, isStuck, noEar, outOfRange, outlineChecks, beforeCutting, cutterChecks, listChecks, beforeTriangles, mergerChecks}
+use Rattle.rules.specs.Entries.{cutter}
+use Rattle.rules.proofs.Rows.{passes, applies, row-off, row-on, no-rows, front-gives, front-none, front-off, front-skips}
+use Rattle.rules.proofs.Points.{differ}
 use Rattle.rules.proofs.Outline.{all-points}
+use Rattle.rules.proofs.Outlines.{Outlined, outlined}
 use Rattle.rules.proofs.Stuck.{NoEarLeft, stuck→no-ear, no-ear→stuck}
-
-none-passes : {A : Type 0} (f : A → Bool) (l : List A) → any f l ≡ false → Each (λ a. f a ≡ false) l
-none-passes f [] e = end
-none-passes f (a ∷ l) e = let (h, k) = or-false (f a) (any f l) e in h & none-passes f l k
+use Rattle.rules.proofs.Answers.{cutter-number}
 
 -- ---- neighbours
-
-same-self : (a : Pt) → same a a ≡ true
-same-self a = rw (T→true (leZ (a .x) (a .x)) (≤ℤ-refl (a .x) .le), T→true (leZ (a .y) (a .y)) (≤ℤ-refl (a .y) .le))
-
-differ : (a b : Pt) → same a b ≡ false → a ≢ b
-differ a b h e = let k = subst (λ (z : Pt). same a z ≡ false) (sym e) h in impossible (cc (same-self a))
 
 module _ (ps : List Pt) where
   steps-apart : (a : ℕ) (l : List ℕ) (b : ℕ) → Each (λ e. same (e .from) (e .to) ≡ false) (steps (point ps a) (points ps l ++ point ps b ∷ [])) → Each (λ e. point ps (e .from) ≢ point ps (e .to)) (steps a (l ++ b ∷ []))
@@ -44,39 +37,45 @@ module _ (ps : List Pt) where
   apart [] h = end
   apart (a ∷ l) h = steps-apart a l a h
 
--- what the rows before 7 leave where none of them applies
-pub record Ready (cs : List Float) (room : ℕ) : Type 0 where
-  pub on-grid : offGrid cs ≡ false
-  pub three : 3 ≤ length (pointsOf cs)
-  pub at-most : length (pointsOf cs) ≤ 512
-  pub no-equals : equalNeighbours (pointsOf cs) ≡ false
-  pub fits : 3 * (length (pointsOf cs) - 2) ≤ room
-  pub last-row : firstRefusal (cutterChecks cs room) ≡ firstRefusal (noEar (pointsOf cs) gives 7 ∷ [])
+-- ---- the cutter's rows before 7
 
-pub ready : (cs : List Float) (room : ℕ) → firstRefusal (beforeCutting cs room) ≡ 0 → Ready cs room
-unfolding cutterChecks
-ready cs room e₀ =
-    let ps = pointsOf cs in
-    let (odd, e₁) = passes (oddNumber cs) 0 _ e₀ in
-    let (few, e₂) = passes (fewPoints cs) 1 _ e₁ in
-    let (many, e₃) = passes (manyPoints cs) 2 _ e₂ in
-    let (off, e₄) = passes (offGrid cs) 3 _ e₃ in
-    let (equal, e₅) = passes (equalNeighbours ps) 4 _ e₄ in
-    let (short, e₆) = passes (ltb room (3 * (length ps - 2))) 5 _ e₅ in
-    record {
-      on-grid = off;
-      three = ltb-false (length ps) 3 few;
-      at-most = ltb-false 512 (length ps) many;
-      no-equals = equal;
-      fits = ltb-false room (3 * (length ps - 2)) short;
-      last-row = row-off 1 _ odd ∙ row-off 2 _ few ∙ row-off 3 _ many ∙ row-off 4 _ off ∙ row-off 5 _ equal ∙ row-off 6 _ short;
-    }
+module _ (cs : List Float) (room : ℕ) where
+  abbrev outline : List Pt
+  outline = pointsOf cs
 
--- ---- the theorem
+  -- what they leave where none of them applies
+  pub record Ready : Type 0 where
+    pub outlines : Outlined 3 mostPoints cs
+    pub no-equals : equalNeighbours outline ≡ false
+    pub fits : 3 * (length outline - 2) ≤ room
+
+  pub ready : firstRefusal (beforeCutting cs room) ≡ 0 → Ready
+  unfolding beforeCutting
+  ready e =
+      let none = front-none (outlineChecks 3 mostPoints cs) _ e in
+      let (equal, e₅) = passes (equalNeighbours outline) 4 _ (sym (front-off (outlineChecks 3 mostPoints cs) _ refl none) ∙ e) in
+      let (short, e₆) = passes (ltb room (3 * (length outline - 2))) 5 _ e₅ in
+      record { outlines = outlined 3 mostPoints cs none; no-equals = equal; fits = ltb-false room (3 * (length outline - 2)) short }
+
+  -- and then 7 decides
+  pub seven-decides : firstRefusal (beforeCutting cs room) ≡ 0 → firstRefusal (cutterChecks cs room) ≡ firstRefusal (noEar outline gives 7 ∷ [])
+  unfolding cutterChecks
+  seven-decides e = front-off (beforeCutting cs room) (noEar outline gives 7 ∷ []) refl e
+
+  -- what is refused before 7 is refused
+  pub refused-early : (n : ℕ) → n ≡ firstRefusal (beforeCutting cs room) → n ≢ 0 → n ≡ firstRefusal (cutterChecks cs room)
+  unfolding cutterChecks
+  refused-early n e d = front-gives (beforeCutting cs room) (noEar outline gives 7 ∷ []) n e d
+
+  pub not-early : firstRefusal (cutterChecks cs room) ≡ 0 → firstRefusal (beforeCutting cs room) ≡ 0
+  unfolding cutterChecks
+  not-early e = front-none (beforeCutting cs room) (noEar outline gives 7 ∷ []) e
+
+-- ---- an accepted outline
 
 pub record Accepted (ps : List Pt) (room : ℕ) : Type 0 where
   pub three : 3 ≤ length ps
-  pub at-most : length ps ≤ 512
+  pub at-most : length ps ≤ mostPoints
   pub neighbours : Apart ps (countFrom 0 (length ps))
   pub fits : 3 * (length ps - 2) ≤ room
   pub triangles : List (Corner ℕ)
@@ -87,58 +86,21 @@ not-stuck stuck h = impossible (cc)
 not-stuck (done ts) h = (ts, refl)
 
 pub accepted : (cs : List Float) (room : ℕ) → firstRefusal (cutterChecks cs room) ≡ 0 → Accepted (pointsOf cs) room
-unfolding cutterChecks equalNeighbours noEar
+unfolding equalNeighbours noEar
 accepted cs room e =
     let ps = pointsOf cs in
-    let r = ready cs room (front-none (beforeCutting cs room) _ e) in
-    let (ear, last) = passes (noEar ps) 6 _ (sym (r .last-row) ∙ e) in
+    let early = not-early cs room e in
+    let r = ready cs room early in
+    let (ear, last) = passes (noEar ps) 6 _ (sym (seven-decides cs room early) ∙ e) in
     let (ts, is) = not-stuck (cut ps) ear in
     record {
-      three = r .three;
-      at-most = r .at-most;
+      three = r .outlines .at-least;
+      at-most = r .outlines .at-most;
       neighbours = apart ps (countFrom 0 (length ps)) (rw (all-points ps) (none-passes (λ e. same (e .from) (e .to)) (edges ps) (r .no-equals)));
       fits = r .fits;
       triangles = ts;
       is-cut = is;
     }
-
--- ---- the merger's
-
-pub record InRange (ps : List Pt) (triangles : List ℕ) (room roomForLengths : ℕ) : Type 0 where
-  pub at-most : length ps ≤ 512
-  pub whole : length triangles % 3 ≡ 0
-  pub few : length triangles / 3 ≤ 510
-  pub below : Each (λ i. i < length ps) triangles
-  pub fits : length triangles ≤ room
-  pub fits-lengths : length triangles / 3 ≤ roomForLengths
-
-pub in-range : (cs : List Float) (triangles : List ℕ) (room roomForLengths : ℕ) → firstRefusal (mergerChecks cs triangles room roomForLengths) ≡ 0 → InRange (pointsOf cs) triangles room roomForLengths
-unfolding mergerChecks outOfRange
-in-range cs triangles room roomForLengths e₀ =
-    let ps = pointsOf cs in
-    let (odd, e₁) = passes (oddNumber cs) 0 _ e₀ in
-    let (many, e₃) = passes (manyPoints cs) 2 _ e₁ in
-    let (off, e₄) = passes (offGrid cs) 3 _ e₃ in
-    let (ragged, e₈) = passes (not (eqb (length triangles % 3) 0)) 7 _ e₄ in
-    let (most, e₁₀) = passes (ltb 510 (length triangles / 3)) 9 _ e₈ in
-    let (out, e₉) = passes (outOfRange ps triangles) 8 _ e₁₀ in
-    let (short, e₆) = passes (ltb room (length triangles) || ltb roomForLengths (length triangles / 3)) 5 _ e₉ in
-    let (s, t) = or-false (ltb room (length triangles)) (ltb roomForLengths (length triangles / 3)) short in
-    record {
-      at-most = ltb-false 512 (length ps) many;
-      whole = eqb-true (length triangles % 3) 0 (not-false (eqb (length triangles % 3) 0) ragged);
-      few = ltb-false 510 (length triangles / 3) most;
-      below = each-imp (λ i h. ltb-is-true i (length ps) (not-false (ltb i (length ps)) h)) (none-passes (λ i. not (ltb i (length ps))) triangles out);
-      fits = ltb-false room (length triangles) s;
-      fits-lengths = ltb-false roomForLengths (length triangles / 3) t;
-    }
-
-pub merger-on-grid : (cs : List Float) (triangles : List ℕ) (room roomForLengths : ℕ) → firstRefusal (mergerChecks cs triangles room roomForLengths) ≡ 0 → offGrid cs ≡ false
-unfolding mergerChecks
-merger-on-grid cs triangles room roomForLengths e₀ =
-    let (odd, e₁) = passes (oddNumber cs) 0 _ e₀ in
-    let (many, e₃) = passes (manyPoints cs) 2 _ e₁ in
-    passes (offGrid cs) 3 _ e₃ .0
 
 -- ---- refusal 7
 
@@ -146,26 +108,59 @@ stuck-is : (c : Cut) → isStuck c ≡ true → c ≡ stuck
 stuck-is stuck h = refl
 stuck-is (done ts) h = impossible (cc)
 
--- the rows before 7, and 7
-pub refused-early : (cs : List Float) (room n : ℕ) → n ≡ firstRefusal (beforeCutting cs room) → (n ≡ 0 → ⊥) → n ≡ firstRefusal (cutterChecks cs room)
-unfolding cutterChecks
-refused-early cs room n e h = front-gives (beforeCutting cs room) (noEar (pointsOf cs) gives 7 ∷ []) n e h
+module _ (cs : List Float) (out : List ℕ) where
+  abbrev ps : List Pt
+  ps = pointsOf cs
 
--- where none of the earlier ones applies, 7 is given exactly for a ring of four or more, met on the way, that has no ear
-pub seven→no-ear : (cs : List Float) (room : ℕ) → firstRefusal (cutterChecks cs room) ≡ 7 → NoEarLeft (pointsOf cs) (countFrom 0 (length (pointsOf cs)))
-unfolding cutterChecks noEar
-seven→no-ear cs room e₀ =
-    let ps = pointsOf cs in
-    let (odd, e₁) = skips {m = 7} (oddNumber cs) 1 _ (omega arith) e₀ in
-    let (few, e₂) = skips {m = 7} (fewPoints cs) 2 _ (omega arith) e₁ in
-    let (many, e₃) = skips {m = 7} (manyPoints cs) 3 _ (omega arith) e₂ in
-    let (off, e₄) = skips {m = 7} (offGrid cs) 4 _ (omega arith) e₃ in
-    let (equal, e₅) = skips {m = 7} (equalNeighbours ps) 5 _ (omega arith) e₄ in
-    let (short, e₆) = skips {m = 7} (ltb room (3 * (length ps - 2))) 6 _ (omega arith) e₅ in
-    stuck→no-ear ps (ltb-false (length ps) 3 few) (stuck-is (cut ps) (applies (noEar ps) 6 e₆))
+  -- the cutter's number is 7 exactly if no earlier row applies and a ring of four or more, met while cutting, has no ear
+  pub record StuckOnTheWay : Type 0 where
+    pub no-earlier : firstRefusal (beforeCutting cs (length out)) ≡ 0
+    pub ring : NoEarLeft ps (countFrom 0 (length ps))
 
-pub no-ear→seven : (cs : List Float) (room : ℕ) → firstRefusal (beforeCutting cs room) ≡ 0 → NoEarLeft (pointsOf cs) (countFrom 0 (length (pointsOf cs))) → firstRefusal (cutterChecks cs room) ≡ 7
-unfolding noEar
-no-ear→seven cs room e h =
-    let r = ready cs room e in
-    r .last-row ∙ row-on 7 [] (ap isStuck (no-ear→stuck (pointsOf cs) (r .three) h))
+  pub seven→stuck : cutter cs out .number ≡ 7 → StuckOnTheWay
+  unfolding cutterChecks beforeCutting noEar
+  seven→stuck e =
+      let rows : firstRefusal (cutterChecks cs (length out)) ≡ 7 = sym (cutter-number cs out) ∙ e in
+      let early = front-skips 7 (beforeCutting cs (length out)) (noEar ps gives 7 ∷ []) refl rows in
+      let is = stuck-is (cut ps) (applies (noEar ps) 6 (sym (seven-decides cs (length out) early) ∙ rows)) in
+      record { no-earlier = early; ring = stuck→no-ear ps (ready cs (length out) early .outlines .at-least) is }
+
+  pub stuck→seven : StuckOnTheWay → cutter cs out .number ≡ 7
+  unfolding noEar
+  stuck→seven h =
+      let three = ready cs (length out) (h .no-earlier) .outlines .at-least in
+      cutter-number cs out ∙ seven-decides cs (length out) (h .no-earlier) ∙ row-on 7 [] (ap isStuck (no-ear→stuck ps three (h .ring)))
+
+-- ---- the merger's
+
+pub record InRange (cs : List Float) (triangles : List ℕ) (room roomForLengths : ℕ) : Type 0 where
+  pub outlines : Outlined 0 mostPoints cs
+  pub whole : length triangles % 3 ≡ 0
+  pub few : length triangles / 3 ≤ mostTriangles
+  pub below : Each (λ i. i < length (pointsOf cs)) triangles
+  pub fits : length triangles ≤ room
+  pub fits-lengths : length triangles / 3 ≤ roomForLengths
+
+module _ (cs : List Float) (triangles : List ℕ) (room roomForLengths : ℕ) where
+  abbrev n : ℕ
+  n = length triangles
+
+  pub in-range : firstRefusal (mergerChecks cs triangles room roomForLengths) ≡ 0 → InRange cs triangles room roomForLengths
+  unfolding mergerChecks beforeTriangles outOfRange
+  in-range e =
+      let points = length (pointsOf cs) in
+      let none = front-none (beforeTriangles cs n) _ e in
+      let first = front-none (outlineChecks 0 mostPoints cs) (listChecks n) none in
+      let (ragged, e₈) = passes (not (eqb (n % 3) 0)) 7 _ (sym (front-off (outlineChecks 0 mostPoints cs) (listChecks n) refl first) ∙ none) in
+      let (most, e₁₀) = passes (ltb mostTriangles (n / 3)) 9 _ e₈ in
+      let (out, e₉) = passes (outOfRange points triangles) 8 _ (sym (front-off (beforeTriangles cs n) _ refl none) ∙ e) in
+      let (short, e₆) = passes (ltb room n || ltb roomForLengths (n / 3)) 5 _ e₉ in
+      let (s, t) = or-false (ltb room n) (ltb roomForLengths (n / 3)) short in
+      record {
+        outlines = outlined 0 mostPoints cs first;
+        whole = eqb-true (n % 3) 0 (not-false (eqb (n % 3) 0) ragged);
+        few = ltb-false mostTriangles (n / 3) most;
+        below = each-imp (λ i h. ltb-is-true i points (not-false (ltb i points) h)) (none-passes (λ i. not (ltb i points)) triangles out);
+        fits = ltb-false room n s;
+        fits-lengths = ltb-false roomForLengths (n / 3) t;
+      }

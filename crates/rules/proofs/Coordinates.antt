@@ -1,17 +1,16 @@
 -- A slice of coordinates as points: how many there are, which stands where, and what the grid check says of each coordinate.
-use Prim.Native.Nat.{ℕ, zero, suc, _+_, _*_, _/_, _%_, _≤_, _<_}
+use Prim.Native.Nat.{ℕ, zero, suc, _+_, _*_, _/_, _≤_, _<_}
 use native.Mathlib.Omega.{arith}
 use mathlib.Core.Path.{_≡_, refl}
 use mathlib.Core.Bool.{true, false, not}
 use mathlib.Core.List.{List, [], _∷_}
-use borrow.Author.Tests.{eq-eqb, ne-eqb, lt-ltb, le-ltb}
 use lib.ListN.{length, getD}
 use lib.Ieee.{Float, nan}
 use Rattle.algebra.specs.Lists.{any}
 use Rattle.algebra.proofs.Equal.{or-false, not-false}
 use Rattle.rules.specs.Grid.{onGrid, pointOf, pointsOf}
-use Rattle.rules.specs.Ear.{point}
-use Rattle.rules.specs.Refusals.{oddNumber, manyPoints, offGrid}
+use Rattle.rules.specs.Plane.{point}
+use Rattle.rules.specs.Refusals.{offGrid}
 
 pub points-length : (cs : List Float) → length (pointsOf cs) ≡ length cs / 2
 unfolding pointsOf
@@ -49,17 +48,3 @@ unfolding offGrid
 grid-at [] k g h = absurd (omega arith)
 grid-at (x ∷ cs) zero g h = not-false (onGrid x) (or-false (not (onGrid x)) (any (λ c. not (onGrid c)) cs) g .0)
 grid-at (x ∷ cs) (suc k) g h = grid-at cs k (or-false (not (onGrid x)) (any (λ c. not (onGrid c)) cs) g .1) (omega arith)
-
--- ---- the tests of refusals 1 and 3, by the number of coordinates
-
-pub odd-on : (cs : List Float) → length cs % 2 ≡ 1 → oddNumber cs ≡ true
-odd-on cs h = eq-eqb (length cs % 2) 1 h
-
-pub odd-off : (cs : List Float) → (length cs % 2 ≡ 1 → ⊥) → oddNumber cs ≡ false
-odd-off cs h = ne-eqb (length cs % 2) 1 h
-
-pub many-on : (cs : List Float) → 512 < length cs / 2 → manyPoints cs ≡ true
-many-on cs h = rw (points-length cs) (lt-ltb 512 (length cs / 2) h)
-
-pub many-off : (cs : List Float) → length cs / 2 ≤ 512 → manyPoints cs ≡ false
-many-off cs h = rw (points-length cs) (le-ltb 512 (length cs / 2) h)

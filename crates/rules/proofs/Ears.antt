@@ -9,9 +9,9 @@ use lib.Ieee.{Float}
 use lib.Signed.{ltZ}
 use Rattle.algebra.specs.Lists.{Each, end, _&_}
 use Rattle.algebra.proofs.Equal.{impossible, and-true-l}
-use Rattle.rules.specs.Plane.{Pt, turn}
+use Rattle.rules.specs.Plane.{Pt, turn, point, turnsLeft}
 use Rattle.algebra.specs.Rings.{Corner, corners, lastOf}
-use Rattle.rules.specs.Ear.{point, turnsLeft, blocked, isEar, pointinessAt, none, pointed, ear}
+use Rattle.rules.specs.Ear.{blocked, isEar, pointinessAt, none, pointed, ear}
 use Rattle.rules.specs.Cut.{nothing, best, choose, without, done, cutRing}
 use Rattle.rules.specs.Measure.{NotRight}
 use Rattle.algebra.proofs.Rings.{Place, places}

@@ -2,6 +2,7 @@
 pub mod Cases
 pub mod Coordinates
 pub mod Walks
+pub mod Points
 pub mod Turns
 pub mod Convex
 pub mod Squares
@@ -18,5 +19,8 @@ pub mod Measures
 pub mod Outline
 pub mod Layouts
 pub mod Rows
+pub mod Outlines
+pub mod Answers
 pub mod Accepted
 pub mod Results
+pub mod Both

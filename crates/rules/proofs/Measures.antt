@@ -9,13 +9,12 @@ use lib.ListN.{length}
 use Rattle.algebra.specs.Lists.{Distinct}
 use Rattle.algebra.specs.Sums.{Sums, total, integers, parities}
 use Rattle.algebra.proofs.Sums.{total-same, xor-self}
-use Rattle.rules.specs.Plane.{Pt, cross}
+use Rattle.rules.specs.Plane.{Pt, cross, point}
 use Rattle.algebra.specs.Rings.{Corner, steps, edges, ringOf, around}
-use Rattle.rules.specs.Crossing.{crossed, odd, inside}
+use Rattle.rules.specs.Crossing.{crossed, odd, oddCrossings}
 use Rattle.rules.specs.Measure.{points, area2}
-use Rattle.rules.specs.Ear.{point}
 use Rattle.rules.specs.Cut.{done, cutRing}
-use Rattle.rules.specs.Merge.{merge}
+use Rattle.rules.specs.Merge.{JoinTest, merge}
 use Rattle.rules.proofs.Turns.{crossed-back, cross-back}
 use Rattle.rules.proofs.Cuts.{triangulation}
 use Rattle.rules.proofs.Pieces.{merging}
@@ -60,16 +59,16 @@ module _ {G : Type 0} (M : Measure G) (ps : List Pt) where
   pub cut-keeps : (k : ℕ) (ring : List ℕ) (ts : List (Corner ℕ)) → length ring ≡ k + 3 → Distinct ring → cutRing k ps ring ≡ done ts → measure M (points ps ring) ≡ measures (map ringOf ts)
   cut-keeps k ring ts n d e = measure-points ring ∙ triangulation k ps ring ts n d e .sum sums by-number (λ a b. back (point ps a) (point ps b)) ∙ sym (measures-points (map ringOf ts))
 
-  pub merge-keeps : (pieces : List (List ℕ)) → measures (merge ps pieces) ≡ measures pieces
-  merge-keeps pieces = measures-points (merge ps pieces) ∙ merging ps pieces .sum sums by-number (λ a b. back (point ps a) (point ps b)) ∙ sym (measures-points pieces)
+  pub merge-keeps : (may : JoinTest) (pieces : List (List ℕ)) → measures (merge may pieces) ≡ measures pieces
+  merge-keeps may pieces = measures-points (merge may pieces) ∙ merging may pieces .sum sums by-number (λ a b. back (point ps a) (point ps b)) ∙ sym (measures-points pieces)
 
 -- ---- any pieces and what they are merged into
 
-module _ (ps : List Pt) (pieces : List (List ℕ)) where
-  pub pieces-inside : (p : Pt) → odd (λ t. inside p (points ps t)) (merge ps pieces) ≡ odd (λ t. inside p (points ps t)) pieces
-  unfolding inside
-  pieces-inside p = merge-keeps (crossing-parity p) ps pieces
+module _ (ps : List Pt) (may : JoinTest) (pieces : List (List ℕ)) where
+  pub pieces-inside : (p : Pt) → odd (λ t. oddCrossings p (points ps t)) (merge may pieces) ≡ odd (λ t. oddCrossings p (points ps t)) pieces
+  unfolding oddCrossings
+  pieces-inside p = merge-keeps (crossing-parity p) ps may pieces
 
-  pub pieces-area : total integers (λ t. area2 (points ps t)) (merge ps pieces) ≡ total integers (λ t. area2 (points ps t)) pieces
+  pub pieces-area : total integers (λ t. area2 (points ps t)) (merge may pieces) ≡ total integers (λ t. area2 (points ps t)) pieces
   unfolding area2
-  pieces-area = merge-keeps doubled-area ps pieces
+  pieces-area = merge-keeps doubled-area ps may pieces

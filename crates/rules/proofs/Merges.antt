@@ -12,9 +12,8 @@ use Rattle.algebra.proofs.Equal.{impossible, eqb-true, and-true-l, and-true-r, 
 use Rattle.algebra.specs.Sums.{Sums, total}
 use Rattle.algebra.proofs.Sums.{total-++, total-swap, left-comm}
 use Rattle.rules.specs.Plane.{Pt}
-use Rattle.algebra.specs.Rings.{lastOf, firstOf, rotations}
-use Rattle.rules.specs.Ear.{turnsRight}
-use Rattle.rules.specs.Merge.{follows, Part, with, lastFirst, mate, bent, mayJoin, joinWith, join, nextJoin, goOn, mergeFrom, merge}
+use Rattle.algebra.specs.Rings.{Corner, rotations}
+use Rattle.rules.specs.Merge.{follows, Part, with, lastFirst, mate, JoinTest, joint, bent, mayJoin, joinWith, join, nextJoin, goOn, mergeFrom, merge}
 use Rattle.algebra.proofs.Rings.{Rotated, rotations-are}
 
 -- ---- what the searches find
@@ -68,7 +67,7 @@ mated-in e s passed (b ∷ more) m h = go (mated-in e s (passed ++ b ∷ []) mor
         })
 
 -- a's next join: with which piece, at which edge, and that it may be
-pub record Join (ps : List Pt) (a : List ℕ) (later : List (List ℕ)) (j : Part) : Type 0 where
+pub record Join (may : JoinTest) (a : List ℕ) (later : List (List ℕ)) (j : Part) : Type 0 where
   pub s : ℕ
   pub e : ℕ
   pub restA : List ℕ
@@ -77,64 +76,62 @@ pub record Join (ps : List Pt) (a : List ℕ) (later : List (List ℕ)) (j : Par
   pub rotatedA : Rotated a (s ∷ e ∷ restA)
   pub rotatedB : Rotated b (e ∷ s ∷ restB)
   pub picked : Picked b later (j .others)
-  pub may : mayJoin ps s e restA restB ≡ true
+  pub allowed : may (joint s e restA restB) (joint e s restB restA) ≡ true
   pub piece : j .piece ≡ (e ∷ restA) ++ (s ∷ restB)
 
-join-is : (ps : List Pt) (a : List ℕ) (later : List (List ℕ)) (t : List ℕ) (j : Part) → Rotated a t → join ps later t ≡ some j → Join ps a later j
+join-is : (may : JoinTest) (a : List ℕ) (later : List (List ℕ)) (t : List ℕ) (j : Part) → Rotated a t → join may later t ≡ some j → Join may a later j
 unfolding join joinWith
-join-is ps a later [] j rotated h = impossible (cc)
-join-is ps a later (s ∷ []) j rotated h = impossible (cc)
-join-is ps a later (s ∷ e ∷ rest) j rotated h = go (mate e s [] later) refl h
+join-is may a later [] j rotated h = impossible (cc)
+join-is may a later (s ∷ []) j rotated h = impossible (cc)
+join-is may a later (s ∷ e ∷ rest) j rotated h = go (mate e s [] later) refl h
   where
-    go : (o : Option Part) → mate e s [] later ≡ o → joinWith ps s e rest o ≡ some j → Join ps a later j
+    go : (o : Option Part) → mate e s [] later ≡ o → joinWith may s e rest o ≡ some j → Join may a later j
     go none i h = impossible (cc)
-    go (some m) i h = next (mayJoin ps s e rest (m .piece)) refl h
+    go (some m) i h = next (may (joint s e rest (m .piece)) (joint e s (m .piece) rest)) refl h
       where
-        next : (t : Bool) → mayJoin ps s e rest (m .piece) ≡ t → cond t (some (record { piece = (e ∷ rest) ++ (s ∷ m .piece); others = m .others })) none ≡ some j → Join ps a later j
+        next : (t : Bool) → may (joint s e rest (m .piece)) (joint e s (m .piece) rest) ≡ t → cond t (some (record { piece = (e ∷ rest) ++ (s ∷ m .piece); others = m .others })) none ≡ some j → Join may a later j
         next true k h =
             let r = mated-in e s [] later m i in
             let q : record { piece = (e ∷ rest) ++ (s ∷ m .piece); others = m .others } ≡ j = cc in
-            subst (Join ps a later) q (record { s = s; e = e; restA = rest; restB = m .piece; b = r .mated; rotatedA = rotated; rotatedB = r .rotated; picked = r .picked; may = k; piece = refl })
+            subst (Join may a later) q (record { s = s; e = e; restA = rest; restB = m .piece; b = r .mated; rotatedA = rotated; rotatedB = r .rotated; picked = r .picked; allowed = k; piece = refl })
         next false k h = impossible (cc)
 
 -- where two pieces may be joined, neither corner of the join turns right
-pub may-join-turns :
-    (ps : List Pt) (s e : ℕ) (restA restB : List ℕ) → mayJoin ps s e restA restB ≡ true
-    → (turnsRight ps (lastOf e restA) s (firstOf e restB) ≡ false) × (turnsRight ps (lastOf s restB) e (firstOf s restA) ≡ false)
-unfolding mayJoin bent
-may-join-turns ps s e restA restB h = or-false _ _ (not-true _ h)
+pub may-join-turns : (ps : List Pt) (s e : Corner ℕ) → mayJoin ps s e ≡ true → (bent ps s ≡ false) × (bent ps e ≡ false)
+unfolding mayJoin
+may-join-turns ps s e h = or-false _ _ (not-true _ h)
 
 -- ---- the chain
 
-pub data Merges (ps : List Pt) : List ℕ → List (List ℕ) → List (List ℕ) → Type 0 where
-  rest-as-is : {a : List ℕ} {later : List (List ℕ)} → Merges ps a later (a ∷ later)
-  next-piece : {a b : List ℕ} {more r : List (List ℕ)} → Merges ps b more r → Merges ps a (b ∷ more) (a ∷ r)
-  joined : {a : List ℕ} {later r : List (List ℕ)} {j : Part} → Join ps a later j → Merges ps (j .piece) (j .others) r → Merges ps a later r
+pub data Merges (may : JoinTest) : List ℕ → List (List ℕ) → List (List ℕ) → Type 0 where
+  rest-as-is : {a : List ℕ} {later : List (List ℕ)} → Merges may a later (a ∷ later)
+  next-piece : {a b : List ℕ} {more r : List (List ℕ)} → Merges may b more r → Merges may a (b ∷ more) (a ∷ r)
+  joined : {a : List ℕ} {later r : List (List ℕ)} {j : Part} → Join may a later j → Merges may (j .piece) (j .others) r → Merges may a later r
 
-merges : (k : ℕ) (ps : List Pt) (a : List ℕ) (later : List (List ℕ)) → Merges ps a later (mergeFrom k ps a later)
+merges : (k : ℕ) (may : JoinTest) (a : List ℕ) (later : List (List ℕ)) → Merges may a later (mergeFrom k may a later)
 unfolding mergeFrom nextJoin
-merges zero ps a later = rest-as-is
-merges (suc k) ps a later = go (merges k ps) later (nextJoin ps a later) refl
+merges zero may a later = rest-as-is
+merges (suc k) may a later = go (merges k may) later (nextJoin may a later) refl
   where
-    go : ((a : List ℕ) (later : List (List ℕ)) → Merges ps a later (mergeFrom k ps a later)) → (later : List (List ℕ)) (o : Option Part) → nextJoin ps a later ≡ o → Merges ps a later (goOn (mergeFrom k ps) a later o)
+    go : ((a : List ℕ) (later : List (List ℕ)) → Merges may a later (mergeFrom k may a later)) → (later : List (List ℕ)) (o : Option Part) → nextJoin may a later ≡ o → Merges may a later (goOn (mergeFrom k may) a later o)
     go rec [] none i = rest-as-is
     go rec (b ∷ more) none i = next-piece (rec b more)
     go rec later (some j) i =
-        let (t, rotated, h) = first-some (join ps later) j (rotations-are a) i in
-        joined (join-is ps a later t j rotated h) (rec (j .piece) (j .others))
+        let (t, rotated, h) = first-some (join may later) j (rotations-are a) i in
+        joined (join-is may a later t j rotated h) (rec (j .piece) (j .others))
 
 -- ---- two laws for piece A at the head of the list: A without a join is finished; a join takes A's place
 
-pub merge-next : (ps : List Pt) (a : List ℕ) (later : List (List ℕ)) → nextJoin ps a later ≡ none → merge ps (a ∷ later) ≡ a ∷ merge ps later
+pub merge-next : (may : JoinTest) (a : List ℕ) (later : List (List ℕ)) → nextJoin may a later ≡ none → merge may (a ∷ later) ≡ a ∷ merge may later
 unfolding merge mergeFrom
-merge-next ps a [] e = refl
-merge-next ps a (b ∷ more) e = rw e
+merge-next may a [] e = refl
+merge-next may a (b ∷ more) e = rw e
 
 pub merge-join :
-    (ps : List Pt) (a : List ℕ) (later : List (List ℕ)) (j : Part) → nextJoin ps a later ≡ some j → suc (length (j .others)) ≡ length later
-    → merge ps (a ∷ later) ≡ merge ps (j .piece ∷ j .others)
+    (may : JoinTest) (a : List ℕ) (later : List (List ℕ)) (j : Part) → nextJoin may a later ≡ some j → suc (length (j .others)) ≡ length later
+    → merge may (a ∷ later) ≡ merge may (j .piece ∷ j .others)
 unfolding merge mergeFrom
-merge-join ps a later j e l = rw (← l, e)
+merge-join may a later j e l = rw (← l, e)
 
 -- ---- sums: what a join adds up, the merge keeps
 
@@ -152,29 +149,29 @@ module _ {G : Type 0} (S : Sums G) where
 
     module _ (rotated : (l m : List ℕ) → Rotated l m → f l ≡ f m)
         (adds : (s e : ℕ) (restA restB : List ℕ) → f ((e ∷ restA) ++ (s ∷ restB)) ≡ f (s ∷ e ∷ restA) ⊕ f (e ∷ s ∷ restB)) where
-      join-sum : {ps : List Pt} {a : List ℕ} {later : List (List ℕ)} {j : Part} → Join ps a later j → f a ⊕ total S f later ≡ f (j .piece) ⊕ total S f (j .others)
+      join-sum : {may : JoinTest} {a : List ℕ} {later : List (List ℕ)} {j : Part} → Join may a later j → f a ⊕ total S f later ≡ f (j .piece) ⊕ total S f (j .others)
       join-sum {j} h =
           rw (h .piece, adds (h .s) (h .e) (h .restA) (h .restB), picked-sum (h .picked), rotated _ _ (h .rotatedA), rotated _ _ (h .rotatedB))
           (sym (assoc (f (h .s ∷ h .e ∷ h .restA)) (f (h .e ∷ h .s ∷ h .restB)) (total S f (j .others))))
 
-      merges-sum : {ps : List Pt} {a : List ℕ} {later r : List (List ℕ)} → Merges ps a later r → total S f r ≡ f a ⊕ total S f later
+      merges-sum : {may : JoinTest} {a : List ℕ} {later r : List (List ℕ)} → Merges may a later r → total S f r ≡ f a ⊕ total S f later
       merges-sum rest-as-is = refl
       merges-sum (next-piece {a} m) = ap (λ (x : G). f a ⊕ x) (merges-sum m)
       merges-sum (joined h m) = merges-sum m ∙ sym (join-sum h)
 
-      pub merge-sum : (ps : List Pt) (pieces : List (List ℕ)) → total S f (merge ps pieces) ≡ total S f pieces
+      pub merge-sum : (may : JoinTest) (pieces : List (List ℕ)) → total S f (merge may pieces) ≡ total S f pieces
       unfolding merge
-      merge-sum ps [] = refl
-      merge-sum ps (a ∷ later) = merges-sum (merges (length later) ps a later)
+      merge-sum may [] = refl
+      merge-sum may (a ∷ later) = merges-sum (merges (length later) may a later)
 
 -- ---- what a join keeps, holds of every piece
 
 lastFirst-each : {P : List ℕ → Type 0} (l : List (List ℕ)) → Each P l → Each P (lastFirst l)
 lastFirst-each {P} l h = each-swap (take (length l - 1) l) (drop (length l - 1) l) (rw (take-append-drop (length l - 1) l) h)
 
-module _ (ps : List Pt) (P : List ℕ → Type 0) (rotated : (l m : List ℕ) → Rotated l m → P l → P m)
-    (keeps : (s e : ℕ) (restA restB : List ℕ) → mayJoin ps s e restA restB ≡ true → P (s ∷ e ∷ restA) → P (e ∷ s ∷ restB) → P ((e ∷ restA) ++ (s ∷ restB))) where
-  merges-each : {a : List ℕ} {later r : List (List ℕ)} → Merges ps a later r → P a → Each P later → Each P r
+module _ (may : JoinTest) (P : List ℕ → Type 0) (rotated : (l m : List ℕ) → Rotated l m → P l → P m)
+    (keeps : (s e : ℕ) (restA restB : List ℕ) → may (joint s e restA restB) (joint e s restB restA) ≡ true → P (s ∷ e ∷ restA) → P (e ∷ s ∷ restB) → P ((e ∷ restA) ++ (s ∷ restB))) where
+  merges-each : {a : List ℕ} {later r : List (List ℕ)} → Merges may a later r → P a → Each P later → Each P r
   merges-each rest-as-is p h = p & h
   merges-each (next-piece m) p (q & h) = p & merges-each m q h
   merges-each (joined {j} i m) p h = merges-each m piece others
@@ -183,12 +180,12 @@ module _ (ps : List Pt) (P : List ℕ → Type 0) (rotated : (l m : List ℕ) �
       parts = rw (i .picked .was) at h
 
       piece : P (j .piece)
-      piece = rw (i .piece) (keeps (i .s) (i .e) (i .restA) (i .restB) (i .may) (rotated _ _ (i .rotatedA) p) (rotated _ _ (i .rotatedB) (each-head (each-back (i .picked .front) (i .b ∷ i .picked .back) parts))))
+      piece = rw (i .piece) (keeps (i .s) (i .e) (i .restA) (i .restB) (i .allowed) (rotated _ _ (i .rotatedA) p) (rotated _ _ (i .rotatedB) (each-head (each-back (i .picked .front) (i .b ∷ i .picked .back) parts))))
 
       others : Each P (j .others)
       others = rw (i .picked .now) (each-++ (each-front (i .picked .front) (i .b ∷ i .picked .back) parts) (lastFirst-each (i .picked .back) (each-tail (each-back (i .picked .front) (i .b ∷ i .picked .back) parts))))
 
-  pub merge-each : (pieces : List (List ℕ)) → Each P pieces → Each P (merge ps pieces)
+  pub merge-each : (pieces : List (List ℕ)) → Each P pieces → Each P (merge may pieces)
   unfolding merge
   merge-each [] h = end
-  merge-each (a ∷ later) (p & h) = merges-each (merges (length later) ps a later) p h
+  merge-each (a ∷ later) (p & h) = merges-each (merges (length later) may a later) p h

@@ -8,9 +8,8 @@ use lib.IntN.{pos}
 use lib.Ieee.{Float}
 use Rattle.algebra.specs.Lists.{Distinct}
 use Rattle.algebra.proofs.Order.{lin}
-use Rattle.rules.specs.Plane.{Pt, turn, left}
+use Rattle.rules.specs.Plane.{Pt, turn, left, point, turnsLeft}
 use Rattle.algebra.specs.Rings.{Corner, corners}
-use Rattle.rules.specs.Ear.{point, turnsLeft}
 use Rattle.rules.specs.Cut.{nothing, best, choose, without}
 use Rattle.rules.specs.Measure.{Apart}
 use Rattle.algebra.proofs.Rings.{Place, places, Rotated, swapped, edges-rotated, each-rotated, edges-without}

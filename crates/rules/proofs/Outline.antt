@@ -10,11 +10,10 @@ use Rattle.algebra.specs.Lists.{Each, countFrom}
 use Rattle.algebra.proofs.Lists.{each-imp}
 use Rattle.algebra.proofs.Counting.{count-within, count-distinct, count-length}
 use Rattle.algebra.specs.Sums.{total, integers}
-use Rattle.rules.specs.Plane.{Pt}
+use Rattle.rules.specs.Plane.{Pt, point}
 use Rattle.algebra.specs.Rings.{Corner, ringOf}
-use Rattle.rules.specs.Crossing.{odd, inside}
+use Rattle.rules.specs.Crossing.{odd, oddCrossings}
 use Rattle.rules.specs.Measure.{points, area2, Apart}
-use Rattle.rules.specs.Ear.{point}
 use Rattle.rules.specs.Cut.{done, cutRing, cut}
 use Rattle.rules.proofs.Cuts.{cuts, cuts-each, cuts-length}
 use Rattle.rules.proofs.Neighbours.{Met, met-apart}
@@ -56,9 +55,9 @@ module _ (ps : List Pt) (ts : List (Corner ℕ)) (three : 3 ≤ length ps) (cuts
   pub cut-measure : {G : Type 0} (M : Measure G) → measure M ps ≡ measures M ps (map ringOf ts)
   cut-measure M = ap (measure M) (sym (all-points ps)) ∙ cut-keeps M ps (length ps - 3) (countFrom 0 (length ps)) ts ring-length (count-distinct 0 (length ps)) ring-cut
 
-  -- a point is inside the outline where it is inside an odd number of triangles
-  pub cut-inside : (p : Pt) → inside p ps ≡ odd (λ t. inside p (points ps t)) (map ringOf ts)
-  unfolding inside
+  -- the outline's crossing parity is that of the triangles'
+  pub cut-inside : (p : Pt) → oddCrossings p ps ≡ odd (λ t. oddCrossings p (points ps t)) (map ringOf ts)
+  unfolding oddCrossings
   cut-inside p = cut-measure (crossing-parity p)
 
   pub cut-area : area2 ps ≡ total integers (λ t. area2 (points ps t)) (map ringOf ts)

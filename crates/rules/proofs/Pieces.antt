@@ -8,10 +8,9 @@ use lib.ListN.{length, length-append}
 use Rattle.algebra.specs.Lists.{Each, end, _&_}
 use Rattle.algebra.proofs.Lists.{each-++, each-imp, each-map}
 use Rattle.algebra.specs.Sums.{Sums, total, naturals}
-use Rattle.rules.specs.Plane.{Pt}
+use Rattle.rules.specs.Plane.{Pt, point}
 use Rattle.algebra.specs.Rings.{Corner, corners, ringOf, around}
-use Rattle.rules.specs.Ear.{point}
-use Rattle.rules.specs.Merge.{mayJoin, merge}
+use Rattle.rules.specs.Merge.{JoinTest, joint, mayJoin, merge}
 use Rattle.rules.specs.Measure.{NotRight, NoneRight}
 use Rattle.algebra.proofs.Rings.{Rotated, corners-rotated, each-rotated, around-rotated, join, corners-two}
 use Rattle.rules.proofs.Turns.{right-rotates}
@@ -48,26 +47,29 @@ pub record Merging (pieces merged : List (List ℕ)) : Type 1 where
 each-join : {P : ℕ → Type 0} {s e : ℕ} {restA restB : List ℕ} → Each P (s ∷ e ∷ restA) → Each P (e ∷ s ∷ restB) → Each P ((e ∷ restA) ++ (s ∷ restB))
 each-join (p & q & h) (_ & _ & k) = each-++ (q & h) (p & k)
 
-pub merging : (ps : List Pt) (pieces : List (List ℕ)) → Merging pieces (merge ps pieces)
-merging ps pieces = record {
-  sum = λ S w back. merge-sum S (around S w) (λ l m t. around-rotated S w t) (join S w back) ps pieces;
-  size = merge-sum naturals beyond-two (λ l m t. ap (λ (n : ℕ). n - 2) (rotated-length t)) join-beyond ps pieces;
-  three = merge-each ps Three (λ l m t. three-rotated t) (λ s e restA restB may. three-join s e restA restB) pieces;
-  from = λ P. merge-each ps (Each P) (λ l m t. each-rotated t) (λ s e restA restB may. each-join) pieces;
+pub merging : (may : JoinTest) (pieces : List (List ℕ)) → Merging pieces (merge may pieces)
+merging may pieces = record {
+  sum = λ S w back. merge-sum S (around S w) (λ l m t. around-rotated S w t) (join S w back) may pieces;
+  size = merge-sum naturals beyond-two (λ l m t. ap (λ (n : ℕ). n - 2) (rotated-length t)) join-beyond may pieces;
+  three = merge-each may Three (λ l m t. three-rotated t) (λ s e restA restB allowed. three-join s e restA restB) pieces;
+  from = λ P. merge-each may (Each P) (λ l m t. each-rotated t) (λ s e restA restB allowed. each-join) pieces;
 }
 
 -- ---- turns
 
 module _ (ps : List Pt) where
-  no-right-join : (s e r q : ℕ) (ls ms : List ℕ) → mayJoin ps s e (r ∷ ls) (q ∷ ms) ≡ true → NoneRight ps (s ∷ e ∷ r ∷ ls) → NoneRight ps (e ∷ s ∷ q ∷ ms) → NoneRight ps ((e ∷ r ∷ ls) ++ (s ∷ q ∷ ms))
+  abbrev May : ℕ → ℕ → List ℕ → List ℕ → Type 0
+  May s e restA restB = mayJoin ps (joint s e restA restB) (joint e s restB restA) ≡ true
+
+  no-right-join : (s e r q : ℕ) (ls ms : List ℕ) → May s e (r ∷ ls) (q ∷ ms) → NoneRight ps (s ∷ e ∷ r ∷ ls) → NoneRight ps (e ∷ s ∷ q ∷ ms) → NoneRight ps ((e ∷ r ∷ ls) ++ (s ∷ q ∷ ms))
   no-right-join s e r q ls ms may (_ & _ & h) (_ & _ & k) =
-      let (at-s, at-e) = may-join-turns ps s e (r ∷ ls) (q ∷ ms) may in
+      let (at-s, at-e) = may-join-turns ps (joint s e (r ∷ ls) (q ∷ ms)) (joint e s (q ∷ ms) (r ∷ ls)) may in
       rw (corners-two e (r ∷ ls) s (q ∷ ms)) (each-++ (at-e & h) (at-s & k))
 
   Good : List ℕ → Type 0
   Good t = Three t × NoneRight ps t
 
-  good-join : (s e : ℕ) (restA restB : List ℕ) → mayJoin ps s e restA restB ≡ true → Good (s ∷ e ∷ restA) → Good (e ∷ s ∷ restB) → Good ((e ∷ restA) ++ (s ∷ restB))
+  good-join : (s e : ℕ) (restA restB : List ℕ) → May s e restA restB → Good (s ∷ e ∷ restA) → Good (e ∷ s ∷ restB) → Good ((e ∷ restA) ++ (s ∷ restB))
   unfolding Good
   good-join s e [] restB may g k = absurd (omega (arith, g .0))
   good-join s e (r ∷ ls) [] may g k = absurd (omega (arith, k .0))
@@ -82,8 +84,8 @@ module _ (ps : List Pt) where
       (omega arith, (right-rotates c a b ∙ h) & h & (sym (right-rotates a b c) ∙ h) & end)
 
   -- where no given triangle turns right, no corner of a merged piece does
-  pub merge-no-right : (ts : List (Corner ℕ)) → Each (NotRight ps) ts → Each (NoneRight ps) (merge ps (map ringOf ts))
+  pub merge-no-right : (ts : List (Corner ℕ)) → Each (NotRight ps) ts → Each (NoneRight ps) (merge (mayJoin ps) (map ringOf ts))
   unfolding Good
   merge-no-right ts h =
       each-imp (λ t g. g .1)
-      (merge-each ps Good (λ l m t g. (three-rotated t (g .0), each-rotated (corners-rotated t) (g .1))) good-join (map ringOf ts) (each-map ringOf (each-imp good-triangle h)))
+      (merge-each (mayJoin ps) Good (λ l m t g. (three-rotated t (g .0), each-rotated (corners-rotated t) (g .1))) good-join (map ringOf ts) (each-map ringOf (each-imp good-triangle h)))

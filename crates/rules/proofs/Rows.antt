@@ -2,9 +2,11 @@
 use Prim.Native.Nat.{ℕ, suc}
 use mathlib.Core.Path.{_≡_, refl}
 use mathlib.Core.Logic.{_≢_}
-use mathlib.Core.Bool.{Bool, true, false}
+use mathlib.Core.Bool.{Bool, true, false, _||_}
 use mathlib.Core.List.{List, [], _∷_, _++_}
 use native.Mathlib.Omega.{arith}
+use lib.Dec.{eqb}
+use Rattle.algebra.proofs.Equal.{impossible, eqb-same, or-false}
 use Rattle.rules.specs.Refusals.{Row, _gives_, firstRefusal}
 
 -- a row that applies gives its number, and one that does not is passed
@@ -21,7 +23,7 @@ unfolding firstRefusal
 no-rows = refl
 
 -- a list that gives m passes the rows that give another number
-pub skips : {m : ℕ} (t : Bool) (n : ℕ) (rows : List Row) → n ≢ m → firstRefusal (t gives n ∷ rows) ≡ m → (t ≡ false) × (firstRefusal rows ≡ m)
+skips : {m : ℕ} (t : Bool) (n : ℕ) (rows : List Row) → n ≢ m → firstRefusal (t gives n ∷ rows) ≡ m → (t ≡ false) × (firstRefusal rows ≡ m)
 unfolding firstRefusal
 skips true n rows d h = absurd (d h)
 skips false n rows d h = (refl, h)
@@ -36,16 +38,36 @@ unfolding firstRefusal
 applies true n h = refl
 applies false n h = absurd (omega arith)
 
+-- ---- rows in front of others
+
 -- what the front rows give, all of them give
-pub front-gives : (rows more : List Row) (n : ℕ) → n ≡ firstRefusal rows → (n ≡ 0 → ⊥) → n ≡ firstRefusal (rows ++ more)
+pub front-gives : (rows more : List Row) (n : ℕ) → n ≡ firstRefusal rows → n ≢ 0 → n ≡ firstRefusal (rows ++ more)
 unfolding firstRefusal
 front-gives [] more n e h = absurd (h e)
 front-gives (true gives k ∷ rows) more n e h = e
 front-gives (false gives k ∷ rows) more n e h = front-gives rows more n e h
 
--- and where all of them give none, the front rows do
+-- where all of them give none, the front rows do
 pub front-none : (rows more : List Row) → firstRefusal (rows ++ more) ≡ 0 → firstRefusal rows ≡ 0
 unfolding firstRefusal
 front-none [] more e = refl
 front-none (true gives k ∷ rows) more e = e
 front-none (false gives k ∷ rows) more e = front-none rows more e
+
+-- some row has the number n
+abbrev pub has : ℕ → List Row → Bool
+has n [] = false
+has n (t gives k ∷ rows) = eqb k n || has n rows
+
+-- where the front rows give none, the others decide; and they do where all of them give a number that no front row has
+pub front-off : (rows more : List Row) → has 0 rows ≡ false → firstRefusal rows ≡ 0 → firstRefusal (rows ++ more) ≡ firstRefusal more
+unfolding firstRefusal
+front-off [] more h e = refl
+front-off (true gives k ∷ rows) more h e = impossible (cc (eqb-same 0, or-false (eqb k 0) (has 0 rows) h .0))
+front-off (false gives k ∷ rows) more h e = front-off rows more (or-false (eqb k 0) (has 0 rows) h .1) e
+
+pub front-skips : (n : ℕ) (rows more : List Row) → has n rows ≡ false → firstRefusal (rows ++ more) ≡ n → firstRefusal rows ≡ 0
+unfolding firstRefusal
+front-skips n [] more h e = refl
+front-skips n (true gives k ∷ rows) more h e = impossible (cc (eqb-same n, or-false (eqb k n) (has n rows) h .0))
+front-skips n (false gives k ∷ rows) more h e = front-skips n rows more (or-false (eqb k n) (has n rows) h .1) e

@@ -8,8 +8,7 @@ use lib.ListN.{length, drop, drop-of-length-le}
 use lib.IntN.{pos}
 use lib.Seq.{drop-cons}
 use Rattle.algebra.specs.Rings.{Edge, steps, edges}
-use Rattle.rules.specs.Plane.{Pt}
-use Rattle.rules.specs.Ear.{point}
+use Rattle.rules.specs.Plane.{Pt, point}
 
 -- the edges from point a along the points from number i on, and back to the first
 unfoldable pub edgesFrom : List Pt → Pt → ℕ → List (Edge Pt)

@@ -17,7 +17,7 @@ use Rattle.rules.specs.Entries.{Cutting, Merging, Asking, cutter, merger
 pub data Case : Type 0 where
   cutting : List Float → List ℕ → Cutting → Case
   merging : List Float → List ℕ → List ℕ → List ℕ → Merging → Case
-  asking-at : Float → Float → List Float → Asking → Case
+  asking-at : Float → Float → List Float → Asking Bool → Case
   rooting : ℕ → Float → Case
   measuring : List Float → ℤ → Case
 
@@ -40,7 +40,7 @@ P-backwards = f 0 ∷ f 0 ∷ f 0 ∷ f 4 ∷ f 4 ∷ f 4 ∷ f 4 ∷ f 0 ∷ []
 abbrev Q : List Float
 Q = f 0 ∷ f 0 ∷ f 2 ∷ f 1 ∷ f 4 ∷ f 0 ∷ f 2 ∷ f 4 ∷ []
 
-abbrev answered : Bool → Asking
+abbrev answered : Bool → Asking Bool
 answered b = record { number = 0; answer = b }
 
 abbrev nines : ℕ → List ℕ

@@ -27,9 +27,13 @@ crossed p a b = upward p a b || downward p a b
 abbrev pub odd : {A : Type 0} → (A → Bool) → List A → Bool
 odd f l = total parities f l
 
--- an odd number of edges is crossed
-unfoldable pub inside : Pt → List Pt → Bool
-inside p ring = around parities (crossed p) ring
+-- an odd number of edges is crossed: the crossing parity
+unfoldable pub oddCrossings : Pt → List Pt → Bool
+oddCrossings p ring = around parities (crossed p) ring
+
+-- what the outline test answers
+abbrev pub inside : Pt → List Pt → Bool
+inside p ring = oddCrossings p ring
 
 -- (p - a) x (b - a) isn't positive at one edge and negative at another; no corners: false
 unfoldable pub insideConvex : Pt → List Pt → Bool

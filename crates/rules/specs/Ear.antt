@@ -3,41 +3,30 @@ use Prim.Native.Nat.{ℕ}
 use mathlib.Core.Bool.{Bool, cond, not, _&&_, _||_}
 use mathlib.Core.List.{List}
 use lib.Dec.{eqb}
-use lib.ListN.{getD, length}
-use lib.IntN.{pos}
+use lib.ListN.{length}
 use lib.Ieee.{Float}
 use Rattle.algebra.specs.Lists.{any, countFrom}
 use Rattle.algebra.specs.Rings.{Corner}
-use Rattle.rules.specs.Plane.{Pt, minus, left, right, inTriangle}
+use Rattle.rules.specs.Plane.{Pt, minus, inTriangle, point, turnsLeft}
 use Rattle.rules.specs.Root.{pointiness}
 
 pub data Ear : Type 0 where
   none : Ear
   pointed : Float → Ear
 
--- point number i of an outline. No rule asks for one past the end, where it would be (0, 0)
-abbrev pub point : List Pt → ℕ → Pt
-point ps i = getD ps i (record { x = pos 0; y = pos 0 })
-
--- the turn at three corner numbers
-abbrev pub turnsLeft : List Pt → ℕ → ℕ → ℕ → Bool
-turnsLeft ps a b c = left (point ps a) (point ps b) (point ps c)
-
-abbrev pub turnsRight : List Pt → ℕ → ℕ → ℕ → Bool
-turnsRight ps a b c = right (point ps a) (point ps b) (point ps c)
-
 -- i is one of the three corners, by index
 abbrev pub named : Corner ℕ → ℕ → Bool
 named c i = eqb i (c .before) || (eqb i (c .at) || eqb i (c .after))
 
--- point number i is another point and in the triangle. "Other" is by index, so a repeated point blocks
-unfoldable pub blocks : List Pt → Corner ℕ → ℕ → Bool
-blocks ps c i = not (named c i) && inTriangle (point ps (c .before)) (point ps (c .at)) (point ps (c .after)) (point ps i)
+-- point number i, which is q, is another point than the three corners, which are p1, p and p3, and is in their triangle. "Other" is by
+-- index, so a repeated point blocks
+unfoldable pub blocks : Corner ℕ → Pt → Pt → Pt → ℕ → Pt → Bool
+blocks c p1 p p3 i q = not (named c i) && inTriangle p1 p p3 q
 
 -- some point of the whole outline does, already cut ones included
 unfoldable pub blocked : List Pt → Corner ℕ → Bool
 unfolding blocks
-blocked ps c = any (blocks ps c) (countFrom 0 (length ps))
+blocked ps c = any (λ i. blocks c (point ps (c .before)) (point ps (c .at)) (point ps (c .after)) i (point ps i)) (countFrom 0 (length ps))
 
 -- the turn of (before, corner, after) is left and no other point is in that triangle
 abbrev pub isEar : List Pt → Corner ℕ → Bool

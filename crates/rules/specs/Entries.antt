@@ -10,7 +10,7 @@ use Rattle.rules.specs.Plane.{Pt}
 use Rattle.rules.specs.Grid.{pointOf, pointsOf}
 use Rattle.rules.specs.Crossing.{inside, insideConvex}
 use Rattle.rules.specs.Cut.{Cut, stuck, done, cut}
-use Rattle.rules.specs.Merge.{merge}
+use Rattle.rules.specs.Merge.{mayJoin, merge}
 use Rattle.rules.specs.Layout.{flatten, split, triples, over}
 use Rattle.rules.specs.Refusals.{firstRefusal, cutterChecks, mergerChecks, pointTestChecks}
 
@@ -58,9 +58,9 @@ pub record Merging : Type 0 where
   pub lengths : List ℕ
 
 unfoldable pub merger : List Float → List ℕ → List ℕ → List ℕ → Merging
-unfolding firstRefusal mergerChecks merge triples flatten
+unfolding firstRefusal mergerChecks mayJoin merge triples flatten
 merger cs triangles indices lengths =
-    let pieces = merge (pointsOf cs) (triples triangles) in
+    let pieces = merge (mayJoin (pointsOf cs)) (triples triangles) in
     unless (firstRefusal (mergerChecks cs triangles (length indices) (length lengths)))
     (λ n. record { number = n; count = 0; indices = indices; lengths = lengths })
     (record { number = 0; count = length pieces; indices = over (flatten pieces) indices; lengths = over (map length pieces) lengths })
@@ -71,19 +71,20 @@ writtenPieces r = split (take (r .count) (r .lengths)) (r .indices)
 
 -- ---- the point tests
 
-pub record Asking : Type 0 where
+pub record Asking (A : Type 0) : Type 0 where
   pub number : ℕ
-  pub answer : Bool
+  pub answer : A
 
-unfoldable pub asking : (Pt → List Pt → Bool) → Float → Float → List Float → Asking
+-- a refused question is answered with `refused`
+unfoldable pub asking : {A : Type 0} → A → (Pt → List Pt → A) → Float → Float → List Float → Asking A
 unfolding firstRefusal pointTestChecks
-asking test x y cs =
+asking refused test x y cs =
     unless (firstRefusal (pointTestChecks x y cs))
-    (λ n. record { number = n; answer = false })
+    (λ n. record { number = n; answer = refused })
     (record { number = 0; answer = test (pointOf x y) (pointsOf cs) })
 
-abbrev pub pointInPoly2d : Float → Float → List Float → Asking
-pointInPoly2d = asking inside
+abbrev pub pointInPoly2d : Float → Float → List Float → Asking Bool
+pointInPoly2d = asking false inside
 
-abbrev pub pointInConvexPoly2d : Float → Float → List Float → Asking
-pointInConvexPoly2d = asking insideConvex
+abbrev pub pointInConvexPoly2d : Float → Float → List Float → Asking Bool
+pointInConvexPoly2d = asking false insideConvex

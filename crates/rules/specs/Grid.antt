@@ -5,6 +5,7 @@ use mathlib.Core.List.{List, [], _∷_}
 use lib.Dec.{eqb, leb}
 use lib.IntN.{ℤ, pos, negℤ}
 use lib.Ieee.{Float, nan, inf, fin, up, down}
+use Rattle.rules.specs.Limits.{gridEdge}
 use Rattle.rules.specs.Plane.{Pt}
 
 -- n, or -n where s is true
@@ -22,7 +23,7 @@ wholeOf (fin s m e) = signed s (m * up e / down e)
 abbrev pub onGrid : Float → Bool
 onGrid nan = false
 onGrid (inf s) = false
-onGrid (fin s m e) = eqb (m * up e % down e) 0 && leb (m * up e / down e) 1024
+onGrid (fin s m e) = eqb (m * up e % down e) 0 && leb (m * up e / down e) gridEdge
 
 -- the point that two coordinates are
 abbrev pub pointOf : Float → Float → Pt

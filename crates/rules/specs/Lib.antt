@@ -1,3 +1,4 @@
+pub mod Limits
 pub mod Plane
 pub mod Grid
 pub mod Crossing

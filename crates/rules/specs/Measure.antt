@@ -9,8 +9,7 @@ use lib.Signed.{ltZ}
 use Rattle.algebra.specs.Lists.{Each}
 use Rattle.algebra.specs.Sums.{integers}
 use Rattle.algebra.specs.Rings.{Corner, edges, corners, around}
-use Rattle.rules.specs.Plane.{Pt, cross}
-use Rattle.rules.specs.Ear.{point, turnsRight}
+use Rattle.rules.specs.Plane.{Pt, cross, point, turnsRight}
 
 -- the points of a ring of corner numbers
 abbrev pub points : List Pt → List ℕ → List Pt

@@ -7,9 +7,8 @@ use mathlib.Core.Option.{Option, none, some}
 use lib.Dec.{eqb}
 use lib.ListN.{length}
 use Rattle.algebra.specs.Lists.{orElse, first}
-use Rattle.algebra.specs.Rings.{lastOf, firstOf, begunAt, rotations}
-use Rattle.rules.specs.Plane.{Pt}
-use Rattle.rules.specs.Ear.{turnsRight}
+use Rattle.algebra.specs.Rings.{Corner, lastOf, firstOf, begunAt, rotations}
+use Rattle.rules.specs.Plane.{Pt, turnsRight}
 
 -- what follows in a ring that begins e, s
 unfoldable pub follows : ℕ → ℕ → List ℕ → Option (List ℕ)
@@ -36,32 +35,38 @@ unfolding first follows rotations
 mate e s passed [] = none
 mate e s passed (b ∷ more) = orElse (with (first (follows e s) (rotations b)) (passed ++ lastFirst more)) (mate e s (passed ++ b ∷ []) more)
 
--- A, which is s ∷ e ∷ restA, and B, which is e ∷ s ∷ restB, turn right where they would be joined
-unfoldable pub bent : List Pt → ℕ → ℕ → List ℕ → List ℕ → Bool
-bent ps s e restA restB = turnsRight ps (lastOf e restA) s (firstOf e restB) || turnsRight ps (lastOf s restB) e (firstOf s restA)
+-- A is s ∷ e ∷ restA and B is e ∷ s ∷ restB. The corner that their join makes at s: between A's corner before s and B's corner after s
+abbrev pub joint : ℕ → ℕ → List ℕ → List ℕ → Corner ℕ
+joint s e restA restB = record { before = lastOf e restA; at = s; after = firstOf e restB }
 
--- the test whether A and B may be joined
-unfoldable pub mayJoin : List Pt → ℕ → ℕ → List ℕ → List ℕ → Bool
-unfolding bent
-mayJoin ps s e restA restB = not (bent ps s e restA restB)
+-- a test whether two pieces may be joined, by the corners that the join makes at s and at e
+abbrev pub JoinTest : Type 0
+JoinTest = Corner ℕ → Corner ℕ → Bool
+
+abbrev pub bent : List Pt → Corner ℕ → Bool
+bent ps c = turnsRight ps (c .before) (c .at) (c .after)
+
+-- the join is refused if one of the two turns right
+unfoldable pub mayJoin : List Pt → JoinTest
+mayJoin ps s e = not (bent ps s || bent ps e)
 
 -- A's corners from e up to the one before s, then B's from s up to the one before e
-unfoldable pub joinWith : List Pt → ℕ → ℕ → List ℕ → Option Part → Option Part
-unfolding mayJoin
-joinWith ps s e rest none = none
-joinWith ps s e rest (some b) = cond (mayJoin ps s e rest (b .piece)) (some (record { piece = (e ∷ rest) ++ (s ∷ b .piece); others = b .others })) none
+unfoldable pub joinWith : JoinTest → ℕ → ℕ → List ℕ → Option Part → Option Part
+joinWith may s e rest none = none
+joinWith may s e rest (some b) =
+    cond (may (joint s e rest (b .piece)) (joint e s (b .piece) rest)) (some (record { piece = (e ∷ rest) ++ (s ∷ b .piece); others = b .others })) none
 
 -- A, begun at its edge s to e, joined with the edge's mate
-unfoldable pub join : List Pt → List (List ℕ) → List ℕ → Option Part
+unfoldable pub join : JoinTest → List (List ℕ) → List ℕ → Option Part
 unfolding joinWith mate
-join ps later [] = none
-join ps later (s ∷ []) = none
-join ps later (s ∷ e ∷ rest) = joinWith ps s e rest (mate e s [] later)
+join may later [] = none
+join may later (s ∷ []) = none
+join may later (s ∷ e ∷ rest) = joinWith may s e rest (mate e s [] later)
 
 -- the join at A's first corner that has one
-unfoldable pub nextJoin : List Pt → List ℕ → List (List ℕ) → Option Part
+unfoldable pub nextJoin : JoinTest → List ℕ → List (List ℕ) → Option Part
 unfolding first rotations join
-nextJoin ps a later = first (join ps later) (rotations a)
+nextJoin may a later = first (join may later) (rotations a)
 
 -- the steps go on with A joined, or, where A has no join, with the piece behind it
 abbrev pub goOn : (List ℕ → List (List ℕ) → List (List ℕ)) → List ℕ → List (List ℕ) → Option Part → List (List ℕ)
@@ -70,12 +75,12 @@ goOn steps a [] none = a ∷ []
 goOn steps a (b ∷ more) none = a ∷ steps b more
 
 -- A and the pieces behind it, which are k: each join, and each step to the next piece, leaves one fewer
-unfoldable pub mergeFrom : ℕ → List Pt → List ℕ → List (List ℕ) → List (List ℕ)
+unfoldable pub mergeFrom : ℕ → JoinTest → List ℕ → List (List ℕ) → List (List ℕ)
 unfolding nextJoin
-mergeFrom zero ps a later = a ∷ later
-mergeFrom (suc k) ps a later = goOn (mergeFrom k ps) a later (nextJoin ps a later)
+mergeFrom zero may a later = a ∷ later
+mergeFrom (suc k) may a later = goOn (mergeFrom k may) a later (nextJoin may a later)
 
-unfoldable pub merge : List Pt → List (List ℕ) → List (List ℕ)
+unfoldable pub merge : JoinTest → List (List ℕ) → List (List ℕ)
 unfolding mergeFrom
-merge ps [] = []
-merge ps (a ∷ later) = mergeFrom (length later) ps a later
+merge may [] = []
+merge may (a ∷ later) = mergeFrom (length later) may a later

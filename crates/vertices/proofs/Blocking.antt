@@ -12,10 +12,9 @@ use lib.ListN.{length}
 use lib.Ieee.{Float}
 use Rattle.algebra.specs.Lists.{any, countFrom}
 use Rattle.algebra.specs.Rings.{Corner}
-use Rattle.rules.specs.Plane.{Pt, minus, turn, inTriangle}
+use Rattle.rules.specs.Plane.{Pt, minus, turn, inTriangle, point}
 use Rattle.rules.specs.Root.{pointiness}
 use Rattle.rules.specs.Ear as rules
-use Rattle.rules.specs.Ear.{point}
 use Rattle.grid.specs.declared.point_in_triangle.Orientation.{Orientation}
 use Rattle.grid.specs.Points.{orientation, isCcw}
 use Rattle.grid.proofs.Turn.{ccw-left}

@@ -1,0 +1,118 @@
+-- What an entry gives back by the number of its refusal: laws of `unless` and of `over`, and for each entry that a refused call reports
+-- nothing and leaves every lent element as it was, and that after 0 the elements beyond those reported keep their contents.
+use Prim.Native.Nat.{ℕ, zero, suc, _*_}
+use mathlib.Core.Path.{_≡_, refl, sym, _∙_, ap}
+use mathlib.Core.Logic.{_≢_}
+use mathlib.Core.List.{List, map}
+use lib.ListN.{length, take, drop, length-map}
+use lib.Seq.{drop-append-seam}
+use lib.Ieee.{Float}
+use Rattle.algebra.specs.Rings.{ringOf}
+use Rattle.rules.specs.Plane.{Pt}
+use Rattle.rules.specs.Grid.{pointOf, pointsOf}
+use Rattle.rules.specs.Cut.{cut}
+use Rattle.rules.specs.Merge.{mayJoin, merge}
+use Rattle.rules.specs.Layout.{flatten, triples, over}
+use Rattle.rules.specs.Refusals.{firstRefusal, cutterChecks, mergerChecks, pointTestChecks}
+use Rattle.rules.specs.Entries.{unless, Cutting, Merging, Asking, trianglesOf, trianglesFor, cutter, merger, asking, writtenTriangles, writtenPieces}
+use Rattle.rules.proofs.Layouts.{take-over, triangles-length, triangles-back, pieces-back}
+
+-- ---- the laws
+
+module _ {R : Type 0} (number : R → ℕ) (refused : ℕ → R) (answer : R) (is : (n : ℕ) → number (refused n) ≡ n) (done : number answer ≡ 0) where
+  pub unless-number : (n : ℕ) → number (unless n refused answer) ≡ n
+  unless-number zero = done
+  unless-number (suc n) = is (suc n)
+
+module _ {R : Type 0} (refused : ℕ → R) (answer : R) where
+  pub unless-answered : {n : ℕ} → n ≡ 0 → unless n refused answer ≡ answer
+  unless-answered e = ap (λ n. unless n refused answer) e
+
+  pub unless-refused : {n : ℕ} → n ≢ 0 → unless n refused answer ≡ refused n
+  unless-refused {n = zero} d = absurd (d refl)
+  unless-refused {n = suc n} d = refl
+
+pub over-beyond : (written old : List ℕ) → drop (length written) (over written old) ≡ drop (length written) old
+over-beyond written old = drop-append-seam written (drop (length written) old)
+
+-- ---- the cutter
+
+module _ (cs : List Float) (out : List ℕ) where
+  abbrev triangles : List (List ℕ)
+  triangles = trianglesFor (pointsOf cs)
+
+  pub cutter-number : cutter cs out .number ≡ firstRefusal (cutterChecks cs (length out))
+  unfolding cutter
+  cutter-number = unless-number (λ (r : Cutting). r .number) _ _ (λ n. refl) refl (firstRefusal (cutterChecks cs (length out)))
+
+  pub cutter-answered : cutter cs out .number ≡ 0 → cutter cs out ≡ record { number = 0; count = length triangles; indices = over (flatten triangles) out }
+  unfolding cutter
+  cutter-answered e = unless-answered _ _ (sym cutter-number ∙ e)
+
+  pub cutter-refused : cutter cs out .number ≢ 0 → cutter cs out ≡ record { number = cutter cs out .number; count = 0; indices = out }
+  unfolding cutter
+  cutter-refused d = unless-refused _ _ (λ e. d (cutter-number ∙ e)) ∙ ap (λ n. record { number = n; count = 0; indices = out }) (sym cutter-number)
+
+  three-each : length (flatten triangles) ≡ 3 * length triangles
+  unfolding trianglesFor
+  three-each = let ts = trianglesOf (cut (pointsOf cs)) in triangles-length ts ∙ ap (λ (n : ℕ). 3 * n) (sym (length-map ts ringOf))
+
+  -- what was written, index by index, and as triangles
+  pub cutter-indices : cutter cs out .number ≡ 0 → take (3 * cutter cs out .count) (cutter cs out .indices) ≡ flatten triangles
+  cutter-indices e = rw (cutter-answered e, ← three-each) (take-over (flatten triangles) out)
+
+  pub cutter-written : cutter cs out .number ≡ 0 → writtenTriangles (cutter cs out) ≡ triangles
+  unfolding trianglesFor
+  cutter-written e = ap triples (cutter-indices e) ∙ triangles-back (trianglesOf (cut (pointsOf cs)))
+
+  pub cutter-beyond : cutter cs out .number ≡ 0 → drop (3 * cutter cs out .count) (cutter cs out .indices) ≡ drop (3 * cutter cs out .count) out
+  cutter-beyond e = rw (cutter-answered e, ← three-each) (over-beyond (flatten triangles) out)
+
+-- ---- the merger
+
+module _ (cs : List Float) (triangles out lens : List ℕ) where
+  abbrev pieces : List (List ℕ)
+  pieces = merge (mayJoin (pointsOf cs)) (triples triangles)
+
+  pub merger-number : merger cs triangles out lens .number ≡ firstRefusal (mergerChecks cs triangles (length out) (length lens))
+  unfolding merger
+  merger-number = unless-number (λ (r : Merging). r .number) _ _ (λ n. refl) refl (firstRefusal (mergerChecks cs triangles (length out) (length lens)))
+
+  pub merger-answered : merger cs triangles out lens .number ≡ 0 → merger cs triangles out lens ≡ record { number = 0; count = length pieces; indices = over (flatten pieces) out; lengths = over (map length pieces) lens }
+  unfolding merger
+  merger-answered e = unless-answered _ _ (sym merger-number ∙ e)
+
+  pub merger-refused : merger cs triangles out lens .number ≢ 0 → merger cs triangles out lens ≡ record { number = merger cs triangles out lens .number; count = 0; indices = out; lengths = lens }
+  unfolding merger
+  merger-refused d = unless-refused _ _ (λ e. d (merger-number ∙ e)) ∙ ap (λ n. record { number = n; count = 0; indices = out; lengths = lens }) (sym merger-number)
+
+  pub merger-written : merger cs triangles out lens .number ≡ 0 → writtenPieces (merger cs triangles out lens) ≡ pieces
+  merger-written e =
+      let n : length pieces ≡ length (map length pieces) = sym (length-map pieces length) in
+      rw (merger-answered e, n, take-over (map length pieces) lens) (pieces-back pieces (drop (length (flatten pieces)) out))
+
+  abbrev corners : ℕ
+  corners = length (flatten (writtenPieces (merger cs triangles out lens)))
+
+  pub merger-beyond : merger cs triangles out lens .number ≡ 0 → drop corners (merger cs triangles out lens .indices) ≡ drop corners out
+  merger-beyond e = rw (merger-written e, merger-answered e) (over-beyond (flatten pieces) out)
+
+  pub merger-lengths-beyond : merger cs triangles out lens .number ≡ 0 → drop (merger cs triangles out lens .count) (merger cs triangles out lens .lengths) ≡ drop (merger cs triangles out lens .count) lens
+  merger-lengths-beyond e =
+      let n : length pieces ≡ length (map length pieces) = sym (length-map pieces length) in
+      rw (merger-answered e, n) (over-beyond (map length pieces) lens)
+
+-- ---- the point tests
+
+module _ {A : Type 0} (no-answer : A) (test : Pt → List Pt → A) (x y : Float) (cs : List Float) where
+  pub asking-number : asking no-answer test x y cs .number ≡ firstRefusal (pointTestChecks x y cs)
+  unfolding asking
+  asking-number = unless-number (λ (r : Asking A). r .number) _ _ (λ n. refl) refl (firstRefusal (pointTestChecks x y cs))
+
+  pub asking-answered : asking no-answer test x y cs .number ≡ 0 → asking no-answer test x y cs ≡ record { number = 0; answer = test (pointOf x y) (pointsOf cs) }
+  unfolding asking
+  asking-answered e = unless-answered _ _ (sym asking-number ∙ e)
+
+  pub asking-refused : asking no-answer test x y cs .number ≢ 0 → asking no-answer test x y cs ≡ record { number = asking no-answer test x y cs .number; answer = no-answer }
+  unfolding asking
+  asking-refused d = unless-refused _ _ (λ e. d (asking-number ∙ e)) ∙ ap (λ n. record { number = n; answer = no-answer }) (sym asking-number)
