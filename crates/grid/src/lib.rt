@@ -1,14 +1,16 @@
-// Document 01's grid: which coordinates are on it, and points read from a lent slice of them.
+// Document 01's grid: which coordinates are on it, the refusals of an outline's coordinates, and points read from a lent slice of them.
+pub mod outline;
 pub mod point;
 pub mod point_in_triangle;
 
+use entries::either;
 use point::Point;
 ghost use mathlib.Core.Path.{_≡_};
-ghost use mathlib.Core.Bool.{true, false, _||_};
+ghost use mathlib.Core.Bool.{true, false};
 ghost use Prim.Native.Nat.{_+_, _*_, _<_};
 ghost use lib.ListN.{length};
 ghost use Rattle.rules.specs.Grid.{onGrid, pointsOf};
-ghost use Rattle.rules.specs.Ear as Rules;
+ghost use Rattle.rules.specs.Plane as Rules;
 ghost use Rattle.rules.specs.Refusals.{offGrid};
 ghost use Rattle.grid.specs.Points.{onGridPt, ptOf};
 
@@ -22,12 +24,6 @@ pub fn on_grid(x: f32) -> bool
         }
     }
     false
-}
-
-pub fn either(s: bool, t: bool) -> bool
-    ensures { λ r. ⌜ r ≡ (s || t) ⌝ }
-{
-    if s { true } else { t }
 }
 
 // Whether a coordinate is off the grid. All are looked at, with no early end, so that several can be looked at at once.

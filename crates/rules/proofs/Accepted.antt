@@ -17,12 +17,12 @@ use Rattle.rules.specs.Plane.{Pt, point, same}
 use Rattle.rules.specs.Grid.{pointsOf}
 use Rattle.rules.specs.Cut.{Cut, stuck, done, cut}
 use Rattle.rules.specs.Measure.{points, Apart}
-use Rattle.rules.specs.Refusals.{_gives_, firstRefusal, offGrid, equalNeighbours, isStuck, noEar, outOfRange, outlineChecks, beforeCutting, cutterChecks, listChecks, beforeTriangles, mergerChecks}
+use Rattle.rules.specs.Refusals.{Row, _gives_, firstRefusal, offGrid, equalNeighbours, isStuck, noEar, outOfRange, countChecks, outlineChecks, beforeCutting, cutterChecks, listChecks, beforeTriangles, mergerChecks}
 use Rattle.rules.specs.Entries.{cutter}
 use Rattle.rules.proofs.Rows.{passes, applies, row-off, row-on, no-rows, front-gives, front-none, front-off, front-skips}
 use Rattle.rules.proofs.Points.{differ}
 use Rattle.rules.proofs.Outline.{all-points}
-use Rattle.rules.proofs.Outlines.{Outlined, outlined}
+use Rattle.rules.proofs.Outlines.{Outlined, outlined, past-outline}
 use Rattle.rules.proofs.Stuck.{NoEarLeft, stuck→no-ear, no-ear→stuck}
 use Rattle.rules.proofs.Answers.{cutter-number}
 
@@ -53,13 +53,13 @@ module _ (cs : List Float) (room : ℕ) where
   unfolding beforeCutting
   ready e =
       let none = front-none (outlineChecks 3 mostPoints cs) _ e in
-      let (equal, e₅) = passes (equalNeighbours outline) 4 _ (sym (front-off (outlineChecks 3 mostPoints cs) _ refl none) ∙ e) in
+      let (equal, e₅) = passes (equalNeighbours outline) 4 _ (sym (past-outline 3 mostPoints cs _ none) ∙ e) in
       let (short, e₆) = passes (ltb room (3 * (length outline - 2))) 5 _ e₅ in
       record { outlines = outlined 3 mostPoints cs none; no-equals = equal; fits = ltb-false room (3 * (length outline - 2)) short }
 
   -- and then 7 decides
   pub seven-decides : firstRefusal (beforeCutting cs room) ≡ 0 → firstRefusal (cutterChecks cs room) ≡ firstRefusal (noEar outline gives 7 ∷ [])
-  unfolding cutterChecks
+  unfolding cutterChecks beforeCutting outlineChecks countChecks
   seven-decides e = front-off (beforeCutting cs room) (noEar outline gives 7 ∷ []) refl e
 
   -- what is refused before 7 is refused
@@ -118,7 +118,7 @@ module _ (cs : List Float) (out : List ℕ) where
     pub ring : NoEarLeft ps (countFrom 0 (length ps))
 
   pub seven→stuck : cutter cs out .number ≡ 7 → StuckOnTheWay
-  unfolding cutterChecks beforeCutting noEar
+  unfolding cutterChecks beforeCutting outlineChecks countChecks noEar
   seven→stuck e =
       let rows : firstRefusal (cutterChecks cs (length out)) ≡ 7 = sym (cutter-number cs out) ∙ e in
       let early = front-skips 7 (beforeCutting cs (length out)) (noEar ps gives 7 ∷ []) refl rows in
@@ -145,15 +145,20 @@ module _ (cs : List Float) (triangles : List ℕ) (room roomForLengths : ℕ) wh
   abbrev n : ℕ
   n = length triangles
 
+  -- where the rows that need no look at the triangles give none, the others decide
+  pub range-decides : (more : List Row) → firstRefusal (beforeTriangles cs n) ≡ 0 → firstRefusal (beforeTriangles cs n ++ more) ≡ firstRefusal more
+  unfolding beforeTriangles outlineChecks countChecks listChecks
+  range-decides more e = front-off (beforeTriangles cs n) more refl e
+
   pub in-range : firstRefusal (mergerChecks cs triangles room roomForLengths) ≡ 0 → InRange cs triangles room roomForLengths
-  unfolding mergerChecks beforeTriangles outOfRange
+  unfolding mergerChecks beforeTriangles listChecks outOfRange
   in-range e =
       let points = length (pointsOf cs) in
       let none = front-none (beforeTriangles cs n) _ e in
       let first = front-none (outlineChecks 0 mostPoints cs) (listChecks n) none in
-      let (ragged, e₈) = passes (not (eqb (n % 3) 0)) 7 _ (sym (front-off (outlineChecks 0 mostPoints cs) (listChecks n) refl first) ∙ none) in
+      let (ragged, e₈) = passes (not (eqb (n % 3) 0)) 7 _ (sym (past-outline 0 mostPoints cs (listChecks n) first) ∙ none) in
       let (most, e₁₀) = passes (ltb mostTriangles (n / 3)) 9 _ e₈ in
-      let (out, e₉) = passes (outOfRange points triangles) 8 _ (sym (front-off (beforeTriangles cs n) _ refl none) ∙ e) in
+      let (out, e₉) = passes (outOfRange points triangles) 8 _ (sym (range-decides _ none) ∙ e) in
       let (short, e₆) = passes (ltb room n || ltb roomForLengths (n / 3)) 5 _ e₉ in
       let (s, t) = or-false (ltb room n) (ltb roomForLengths (n / 3)) short in
       record {

@@ -2,7 +2,7 @@
 use Prim.Native.Nat.{ℕ, _/_, _%_, _≤_}
 use mathlib.Core.Path.{_≡_, refl, sym, _∙_}
 use mathlib.Core.Bool.{false}
-use mathlib.Core.List.{List, [], _∷_}
+use mathlib.Core.List.{List, [], _∷_, _++_}
 use native.Mathlib.Omega.{arith}
 use borrow.Author.Tests.{le-ltb}
 use lib.Dec.{eqb, ltb}
@@ -10,7 +10,7 @@ use lib.ListN.{length}
 use lib.Ieee.{Float}
 use Rattle.algebra.proofs.Equal.{ltb-false}
 use Rattle.rules.specs.Grid.{pointsOf}
-use Rattle.rules.specs.Refusals.{_gives_, firstRefusal, offGrid, countChecks, outlineChecks}
+use Rattle.rules.specs.Refusals.{Row, _gives_, firstRefusal, offGrid, countChecks, outlineChecks}
 use Rattle.rules.proofs.Rows.{passes, row-off, no-rows, front-none, front-off}
 use Rattle.rules.proofs.Coordinates.{points-length}
 
@@ -22,6 +22,7 @@ pub record Counted (least most coordinates : ℕ) : Type 0 where
   pub at-most : coordinates / 2 ≤ most
 
 pub counted : (least most n : ℕ) → firstRefusal (countChecks least most n) ≡ 0 → Counted least most n
+unfolding countChecks
 counted least most n e₀ =
     let (odd, e₁) = passes (eqb (n % 2) 1) 0 _ e₀ in
     let (few, e₂) = passes (ltb (n / 2) least) 1 _ e₁ in
@@ -29,7 +30,13 @@ counted least most n e₀ =
     record { even = odd; at-least = ltb-false (n / 2) least few; at-most = ltb-false most (n / 2) many }
 
 count-none : {least most n : ℕ} → Counted least most n → firstRefusal (countChecks least most n) ≡ 0
+unfolding countChecks
 count-none {least} {most} {n} c = row-off 1 _ (c .even) ∙ row-off 2 _ (le-ltb (n / 2) least (c .at-least)) ∙ row-off 3 _ (le-ltb most (n / 2) (c .at-most)) ∙ no-rows
+
+-- where none applies, the rows behind decide
+pub past-count : (least most n : ℕ) (more : List Row) → firstRefusal (countChecks least most n) ≡ 0 → firstRefusal (countChecks least most n ++ more) ≡ firstRefusal more
+unfolding countChecks
+past-count least most n more e = front-off (countChecks least most n) more refl e
 
 -- ---- the outline
 
@@ -40,13 +47,19 @@ pub record Outlined (least most : ℕ) (cs : List Float) : Type 0 where
   pub on-grid : offGrid cs ≡ false
 
 pub outlined : (least most : ℕ) (cs : List Float) → firstRefusal (outlineChecks least most cs) ≡ 0 → Outlined least most cs
+unfolding outlineChecks
 outlined least most cs e =
     let none = front-none (countChecks least most (length cs)) (offGrid cs gives 4 ∷ []) e in
     let c = counted least most (length cs) none in
-    let off = passes (offGrid cs) 3 [] (sym (front-off (countChecks least most (length cs)) (offGrid cs gives 4 ∷ []) refl none) ∙ e) .0 in
+    let off = passes (offGrid cs) 3 [] (sym (past-count least most (length cs) (offGrid cs gives 4 ∷ []) none) ∙ e) .0 in
     record { even = c .even; at-least = omega (arith, c .at-least, points-length cs); at-most = omega (arith, c .at-most, points-length cs); on-grid = off }
 
 pub outline-none : {least most : ℕ} {cs : List Float} → Outlined least most cs → firstRefusal (outlineChecks least most cs) ≡ 0
+unfolding outlineChecks
 outline-none {least} {most} {cs} o =
     let c : Counted least most (length cs) = record { even = o .even; at-least = omega (arith, o .at-least, points-length cs); at-most = omega (arith, o .at-most, points-length cs) } in
-    front-off (countChecks least most (length cs)) (offGrid cs gives 4 ∷ []) refl (count-none c) ∙ row-off 4 [] (o .on-grid) ∙ no-rows
+    past-count least most (length cs) (offGrid cs gives 4 ∷ []) (count-none c) ∙ row-off 4 [] (o .on-grid) ∙ no-rows
+
+pub past-outline : (least most : ℕ) (cs : List Float) (more : List Row) → firstRefusal (outlineChecks least most cs) ≡ 0 → firstRefusal (outlineChecks least most cs ++ more) ≡ firstRefusal more
+unfolding outlineChecks countChecks
+past-outline least most cs more e = front-off (outlineChecks least most cs) more refl e

@@ -44,21 +44,22 @@ outOfRange n indices = any (λ i. not (ltb i n)) indices
 -- ---- an outline of `least` to `most` points
 
 -- what the number of its coordinates decides, two of which are a point
-abbrev pub countChecks : ℕ → ℕ → ℕ → List Row
+unfoldable pub countChecks : ℕ → ℕ → ℕ → List Row
 countChecks least most coordinates =
     eqb (coordinates % 2) 1 gives 1
     ∷ ltb (coordinates / 2) least gives 2
     ∷ ltb most (coordinates / 2) gives 3
     ∷ []
 
-abbrev pub outlineChecks : ℕ → ℕ → List Float → List Row
+unfoldable pub outlineChecks : ℕ → ℕ → List Float → List Row
+unfolding offGrid countChecks
 outlineChecks least most cs = countChecks least most (length cs) ++ (offGrid cs gives 4 ∷ [])
 
 -- ---- the orders. Of the slices for output only the lengths are asked
 
 -- the cutter's rows that need no cut
 unfoldable pub beforeCutting : List Float → ℕ → List Row
-unfolding offGrid equalNeighbours
+unfolding outlineChecks equalNeighbours
 beforeCutting cs room =
     outlineChecks 3 mostPoints cs
     ++ (equalNeighbours (pointsOf cs) gives 5
@@ -70,7 +71,7 @@ unfolding beforeCutting noEar
 cutterChecks cs room = beforeCutting cs room ++ (noEar (pointsOf cs) gives 7 ∷ [])
 
 -- what the number of a triangle list's indices decides
-abbrev pub listChecks : ℕ → List Row
+unfoldable pub listChecks : ℕ → List Row
 listChecks indices =
     not (eqb (indices % 3) 0) gives 8
     ∷ ltb mostTriangles (indices / 3) gives 10
@@ -78,7 +79,7 @@ listChecks indices =
 
 -- the merger's rows that need no look at the triangles. Of 0 points or more, 2 is never given
 unfoldable pub beforeTriangles : List Float → ℕ → List Row
-unfolding offGrid
+unfolding outlineChecks listChecks
 beforeTriangles cs indices = outlineChecks 0 mostPoints cs ++ listChecks indices
 
 unfoldable pub mergerChecks : List Float → List ℕ → ℕ → ℕ → List Row
@@ -90,5 +91,5 @@ mergerChecks cs triangles room roomForLengths =
     ∷ [])
 
 unfoldable pub pointTestChecks : Float → Float → List Float → List Row
-unfolding offGrid
+unfolding outlineChecks
 pointTestChecks x y cs = outlineChecks 0 mostPoints cs ++ (offGrid (x ∷ y ∷ []) gives 4 ∷ [])
