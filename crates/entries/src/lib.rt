@@ -7,10 +7,12 @@ ghost use Rattle.rules.specs.Limits.{mostCoordinates, mostIndices};
 
 // Of an outline.
 pub const MOST_POINTS: usize = 512;
+
 pub const MOST_COORDINATES: usize = 2 * MOST_POINTS;
 
 // Of a list that is cut or merged.
 pub const MOST_TRIANGLES: usize = MOST_POINTS - 2;
+
 pub const MOST_INDICES: usize = 3 * MOST_TRIANGLES;
 
 // Document 01's number, and the count of triangles or pieces that are reported: 0 beside a refusal.

@@ -4,3 +4,4 @@ pub mod Turn
 pub mod GridTest
 pub mod Sides
 pub mod Triangle
+pub mod Walks

@@ -12,7 +12,7 @@ use Rattle.algebra.specs.Rings.{lastOf}
 use mathlib.Core.Option.{none, some}
 use Rattle.algebra.specs.Lists.{first}
 use Rattle.algebra.specs.Rings.{begunAt, rotationsFrom, rotations}
-use Rattle.rules.specs.Merge.{mate, bent, mayJoin, joinWith, join, nextJoin}
+use Rattle.rules.specs.Merge.{mate, mayJoin, joinWith, join, nextJoin}
 use Rattle.pieces.specs.Pieces.{ring, begun, pieces}
 use Rattle.pieces.specs.State.{others}
 use Rattle.joins.specs.Search.{begins, bentAt, Mated, Joins}
@@ -40,7 +40,7 @@ swapped true x y = refl
 swapped false x y = refl
 
 module _ (ps : List Pt) (later : List (List ℕ)) where
-  pub join-nobody : (l : List ℕ) → 3 ≤ length l → mate (getD l 1 0) (getD l 0 0) [] later ≡ none → join ps later l ≡ none
+  pub join-nobody : (l : List ℕ) → 3 ≤ length l → mate (getD l 1 0) (getD l 0 0) [] later ≡ none → join (mayJoin ps) later l ≡ none
   unfolding join joinWith
   join-nobody [] h q = refl
   join-nobody (s ∷ []) h q = refl
@@ -50,8 +50,8 @@ module _ (ps : List Pt) (later : List (List ℕ)) where
   pub join-mate :
       (n k : ℕ) (l m : List ℕ) (others : List (List ℕ)) → length l ≡ n → length m ≡ k → 3 ≤ n → 3 ≤ k → begins (getD l 1 0) (getD l 0 0) m ≡ true
       → mate (getD l 1 0) (getD l 0 0) [] later ≡ some (record { piece = drop 2 m; others = others })
-      → join ps later l ≡ cond (bentAt ps n l k m) none (some (record { piece = drop 1 l ++ drop 1 m; others = others }))
-  unfolding join joinWith mayJoin bent bentAt
+      → join (mayJoin ps) later l ≡ cond (bentAt ps n l k m) none (some (record { piece = drop 1 l ++ drop 1 m; others = others }))
+  unfolding join joinWith mayJoin bentAt
   join-mate n k [] m o i j h h' b q = absurd (omega arith)
   join-mate n k (s ∷ []) m o i j h h' b q = absurd (omega arith)
   join-mate n k (s ∷ e ∷ []) m o i j h h' b q = absurd (omega arith)
@@ -87,7 +87,7 @@ module _
 
   pub no-mate :
       Mated store lens count (a + 1) (own .at + own .len) e s Nobody
-      → Joins store lens count a (own .at) (own .len) (join ps (pieces store lens (a + 1) count (own .at + own .len)) (begun store own)) Nowhere
+      → Joins store lens count a (own .at) (own .len) (join (mayJoin ps) (pieces store lens (a + 1) count (own .at + own .len)) (begun store own)) Nowhere
   unfolding Mated Joins
   no-mate m =
       join-nobody ps (pieces store lens (a + 1) count (own .at + own .len)) (begun store own) (omega (arith, begun-size own (here-a .fits), here-a .long))
@@ -96,7 +96,7 @@ module _
   -- and its mate
   module _ (b : ℕ) (mate : Ring) (m : Mated store lens count (a + 1) (own .at + own .len) e s (Is b mate)) (here-b : Here store lens count b (mate .at) (mate .len)) where
     join-is :
-        join ps (pieces store lens (a + 1) count (own .at + own .len)) (begun store own)
+        join (mayJoin ps) (pieces store lens (a + 1) count (own .at + own .len)) (begun store own)
         ≡ cond (bentAt ps (own .len) (begun store own) (mate .len) (begun store mate)) none
         (some (record { piece = drop 1 (begun store own) ++ drop 1 (begun store mate); others = others store lens count (a + 1) (own .at + own .len) b mate }))
     unfolding Mated
@@ -111,11 +111,11 @@ module _
         (rw (← p, ← q) (m .2))
 
     module _ (bends : Bool) (is : bends ≡ bentAt ps (own .len) (begun store own) (mate .len) (begun store mate)) where
-      pub bent-join : bends ≡ true → Joins store lens count a (own .at) (own .len) (join ps (pieces store lens (a + 1) count (own .at + own .len)) (begun store own)) Nowhere
+      pub bent-join : bends ≡ true → Joins store lens count a (own .at) (own .len) (join (mayJoin ps) (pieces store lens (a + 1) count (own .at + own .len)) (begun store own)) Nowhere
       unfolding Joins
       bent-join f = join-is ∙ rw (← is, f)
 
-      pub good-join : bends ≡ false → Joins store lens count a (own .at) (own .len) (join ps (pieces store lens (a + 1) count (own .at + own .len)) (begun store own)) (At own b mate)
+      pub good-join : bends ≡ false → Joins store lens count a (own .at) (own .len) (join (mayJoin ps) (pieces store lens (a + 1) count (own .at + own .len)) (begun store own)) (At own b mate)
       unfolding Joins Mated
       good-join f = ((refl, refl, h), m .0, join-is ∙ rw (← is, f))
 
@@ -123,8 +123,8 @@ module _
 unfoldable pub Far : List Pt → List ℕ → List ℕ → ℕ → ℕ → ℕ → ℕ → ℕ → Type 0
 unfolding nextJoin first join rotationsFrom
 Far ps store lens count a at n i =
-    nextJoin ps (ring store at n) (pieces store lens (a + 1) count (at + n))
-    ≡ first (join ps (pieces store lens (a + 1) count (at + n))) (rotationsFrom (take i (ring store at n)) (drop i (ring store at n)))
+    nextJoin (mayJoin ps) (ring store at n) (pieces store lens (a + 1) count (at + n))
+    ≡ first (join (mayJoin ps) (pieces store lens (a + 1) count (at + n))) (rotationsFrom (take i (ring store at n)) (drop i (ring store at n)))
 
 module _ (ps : List Pt) (store lens : List ℕ) (count a at n : ℕ) where
   abbrev C : List ℕ
@@ -141,19 +141,19 @@ module _ (ps : List Pt) (store lens : List ℕ) (count a at n : ℕ) where
     long : length C ≡ n
     long = length-ring store at n (here-a .fits)
 
-    module _ (h : i < n) (r : Join) (joins : Joins store lens count a at n (join ps (pieces store lens (a + 1) count (at + n)) (begunAt i (ring store at n))) r) where
+    module _ (h : i < n) (r : Join) (joins : Joins store lens count a at n (join (mayJoin ps) (pieces store lens (a + 1) count (at + n)) (begunAt i (ring store at n))) r) where
       pub far-more : r ≡ Nowhere → Far ps store lens count a at n (i + 1)
       unfolding Joins Far
-      far-more e = far ∙ rotations-none (join ps L) C i (omega (arith, long)) (rw e at joins)
+      far-more e = far ∙ rotations-none (join (mayJoin ps) L) C i (omega (arith, long)) (rw e at joins)
 
       pub far-found :
           (own : Ring) (b : ℕ) (mate : Ring) → r ≡ At own b mate
-          → Joins store lens count a at (getD lens a 0) (nextJoin ps (ring store at (getD lens a 0)) (pieces store lens (a + 1) count (at + getD lens a 0))) (At own b mate)
+          → Joins store lens count a at (getD lens a 0) (nextJoin (mayJoin ps) (ring store at (getD lens a 0)) (pieces store lens (a + 1) count (at + getD lens a 0))) (At own b mate)
       unfolding Joins Far
       far-found own b mate e =
           let q = rw e at joins in
-          rw (← here-a .is) (q .0, q .1, far ∙ rotations-some (join ps L) C i _ (omega (arith, long)) (q .2))
+          rw (← here-a .is) (q .0, q .1, far ∙ rotations-some (join (mayJoin ps) L) C i _ (omega (arith, long)) (q .2))
 
-    pub far-end : n ≤ i → Joins store lens count a at (getD lens a 0) (nextJoin ps (ring store at (getD lens a 0)) (pieces store lens (a + 1) count (at + getD lens a 0))) Nowhere
+    pub far-end : n ≤ i → Joins store lens count a at (getD lens a 0) (nextJoin (mayJoin ps) (ring store at (getD lens a 0)) (pieces store lens (a + 1) count (at + getD lens a 0))) Nowhere
     unfolding Joins Far
-    far-end h = rw (← here-a .is) (far ∙ rotations-end (join ps L) C i (omega (arith, long)))
+    far-end h = rw (← here-a .is) (far ∙ rotations-end (join (mayJoin ps) L) C i (omega (arith, long)))

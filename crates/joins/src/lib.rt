@@ -10,7 +10,7 @@ ghost use lib.ListN.{length, getD};
 ghost use lib.Seq.{slice};
 ghost use Rattle.rules.specs.Grid.{pointsOf};
 ghost use Rattle.rules.specs.Plane.{turnsRight};
-ghost use Rattle.rules.specs.Merge.{join, nextJoin};
+ghost use Rattle.rules.specs.Merge.{mayJoin, join, nextJoin};
 ghost use Rattle.rules.specs.Refusals.{offGrid};
 ghost use Rattle.pieces.specs.Pieces.{ring, begun, Within, sum, pieces, Lies, Known};
 ghost use Rattle.joins.specs.Search.{begins, holds, Passed, Mated, bentAt, Joins};
@@ -48,7 +48,7 @@ fn in_eight(store: &[u32], from: usize, e: u32) -> bool
     let mut hit = false;
     let mut i = 0;
     while i < 8 {
-        hit = grid::either(hit, store[from + i] == e);
+        hit = entries::either(hit, store[from + i] == e);
         i += 1;
     }
     hit
@@ -175,7 +175,7 @@ fn join_at(
     requires { ⌜ own .at + sum (slice a count (now lens)) ≡ total ⌝ }
     ensures { λ r. ⌜
         Joins (now (store .entry)) (now (lens .entry)) count a (own .at) (own .len)
-        (join (pointsOf (now (coords .entry))) (pieces (now (store .entry)) (now (lens .entry)) (a + 1) count (own .at + own .len)) (begun (now (store .entry)) own))
+        (join (mayJoin (pointsOf (now (coords .entry)))) (pieces (now (store .entry)) (now (lens .entry)) (a + 1) count (own .at + own .len)) (begun (now (store .entry)) own))
         r
         ⌝ }
 {
@@ -208,7 +208,7 @@ pub fn next_join(
     requires { ⌜ at + sum (slice a count (now lens)) ≡ total ⌝ }
     ensures { λ r. ⌜
         Joins (now (store .entry)) (now (lens .entry)) count a at (getD (now (lens .entry)) a 0)
-        (nextJoin (pointsOf (now (coords .entry))) (ring (now (store .entry)) at (getD (now (lens .entry)) a 0))
+        (nextJoin (mayJoin (pointsOf (now (coords .entry)))) (ring (now (store .entry)) at (getD (now (lens .entry)) a 0))
         (pieces (now (store .entry)) (now (lens .entry)) (a + 1) count (at + getD (now (lens .entry)) a 0)))
         r
         ⌝ }

@@ -1,37 +1,43 @@
 -- What an entry answers, for either test: its refusal, or what the test says. And that two answers allowed by a promise are equal.
 use Prim.Native.Nat.{ℕ, zero, suc}
+use native.Mathlib.Omega.{arith}
 use mathlib.Core.Path.{_≡_, refl, sym, _∙_, ap}
+use mathlib.Core.Logic.{_≢_}
 use mathlib.Core.Bool.{Bool, true, false, cond, not, _||_}
 use mathlib.Core.List.{List, [], _∷_}
-use native.Mathlib.Omega.{arith}
 use lib.Ieee.{Float}
 use Rattle.algebra.proofs.Equal.{or-false, not-false}
+use Rattle.rules.specs.Limits.{mostPoints}
 use Rattle.rules.specs.Plane.{Pt}
 use Rattle.rules.specs.Grid.{onGrid, pointOf, pointsOf}
-use Rattle.rules.specs.Refusals.{oddNumber, manyPoints, offGrid, firstRefusal, pointTestChecks}
-use Rattle.rules.specs.Entries.{Asking, unless, asking, pointInPoly2d, pointInConvexPoly2d}
-use Rattle.rules.proofs.Rows.{passes}
+use Rattle.rules.specs.Refusals.{offGrid, firstRefusal, outlineChecks, pointTestChecks}
+use Rattle.rules.specs.Entries.{Asking, asking, pointInPoly2d, pointInConvexPoly2d}
+use Rattle.rules.proofs.Rows.{passes, front-none}
+use Rattle.rules.proofs.Outlines.{outlined, past-outline}
+use Rattle.rules.proofs.Answers.{asking-number, asking-answered, asking-refused}
 use Rattle.grid.specs.declared.point.Point.{Point}
 use Rattle.grid.specs.Points.{onGridPt}
 use Rattle.point_in_poly2d.specs.declared.Verdict.{Verdict}
 use Rattle.point_in_poly2d.specs.declared.Verdict.the-variants.{Refused, Outside, Inside}
 use Rattle.point_in_poly2d.specs.Verdicts.{numberOf, answerOf, verdict}
 
--- ---- the answer by the number of the refusal
+-- ---- the verdict of a refused and of an answered question
 
-by-number : (test : Pt → List Pt → Bool) (x y : Float) (cs : List Float) (n : ℕ) → n ≡ firstRefusal (pointTestChecks x y cs)
-    → verdict (asking test x y cs) ≡ verdict (unless n (λ n. record { number = n; answer = false }) (record { number = 0; answer = test (pointOf x y) (pointsOf cs) }))
-unfolding asking
-by-number test x y cs n e = rw e
+refusing : (n : ℕ) → n ≢ 0 → (b : Bool) → verdict (record { number = n; answer = b }) ≡ Refused n
+refusing zero d b = absurd (d refl)
+refusing (suc n) d b = refl
 
-module _ (test : Pt → List Pt → Bool) (x y : Float) (cs : List Float) where
-  pub refused : (n : ℕ) → n ≡ firstRefusal (pointTestChecks x y cs) → (n ≡ 0 → ⊥) → Refused n ≡ verdict (asking test x y cs)
-  refused zero e h = absurd (h refl)
-  refused (suc n) e h = sym (by-number test x y cs (suc n) e)
+module _ (test : Pt → List Pt → Bool) (x y : Float) (cs : List Float) (n : ℕ) (is : n ≡ firstRefusal (pointTestChecks x y cs)) where
+  number-is : asking false test x y cs .number ≡ n
+  number-is = asking-number false test x y cs ∙ sym is
 
-  pub answered : (n : ℕ) → n ≡ firstRefusal (pointTestChecks x y cs) → n ≡ 0 → {t : Bool} → t ≡ test (pointOf x y) (pointsOf cs) → cond t Inside Outside ≡ verdict (asking test x y cs)
-  answered zero e h i = ap (λ (b : Bool). cond b Inside Outside) i ∙ sym (by-number test x y cs zero e)
-  answered (suc n) e h i = absurd (omega arith)
+  pub refused : n ≢ 0 → Refused n ≡ verdict (asking false test x y cs)
+  refused d =
+      let r = asking-refused false test x y cs (λ e. d (sym number-is ∙ e)) in
+      sym (ap verdict r ∙ ap (λ m. verdict (record { number = m; answer = false })) number-is ∙ refusing n d false)
+
+  pub answered : n ≡ 0 → {t : Bool} → t ≡ test (pointOf x y) (pointsOf cs) → cond t Inside Outside ≡ verdict (asking false test x y cs)
+  answered e i = ap (λ (b : Bool). cond b Inside Outside) i ∙ sym (ap verdict (asking-answered false test x y cs (number-is ∙ e)))
 
 -- ---- what is known where none applies
 
@@ -45,31 +51,30 @@ points-on x y e p i j =
 pub accepted : (x y : Float) (cs : List Float) (n : ℕ) → n ≡ firstRefusal (pointTestChecks x y cs) → n ≡ 0 → (p : Point) → p .x ≡ x → p .y ≡ y → (onGridPt p ≡ true) × (offGrid cs ≡ false)
 unfolding pointTestChecks
 accepted x y cs n e h p i j =
-    let (odd, e₁) = passes (oddNumber cs) 0 _ (sym e ∙ h) in
-    let (many, e₃) = passes (manyPoints cs) 2 _ e₁ in
-    let (off, e₄) = passes (offGrid (x ∷ y ∷ []) || offGrid cs) 3 _ e₃ in
-    let (asked, given) = or-false (offGrid (x ∷ y ∷ [])) (offGrid cs) off in
-    (points-on x y asked p i j, given)
+    let rows = sym e ∙ h in
+    let none = front-none (outlineChecks 0 mostPoints cs) _ rows in
+    let asked = passes (offGrid (x ∷ y ∷ [])) 3 _ (sym (past-outline 0 mostPoints cs _ none) ∙ rows) .0 in
+    (points-on x y asked p i j, outlined 0 mostPoints cs none .on-grid)
 
--- ---- the verdict has the number and the answer that the rules give
+-- ---- the verdict has the number and the answer that the rules give, refused or not
 
-pub verdict-number : (test : Pt → List Pt → Bool) (x y : Float) (cs : List Float) → numberOf (verdict (asking test x y cs)) ≡ asking test x y cs .number
-unfolding asking
-verdict-number test x y cs = go (firstRefusal (pointTestChecks x y cs)) (test (pointOf x y) (pointsOf cs))
-  where
-    go : (n : ℕ) (t : Bool) → numberOf (verdict (unless n (λ n. record { number = n; answer = false }) (record { number = 0; answer = t }))) ≡ unless {R = Asking} n (λ n. record { number = n; answer = false }) (record { number = 0; answer = t }) .number
-    go zero true = refl
-    go zero false = refl
-    go (suc n) t = refl
+verdict-number-of : (n : ℕ) (b : Bool) → numberOf (verdict (record { number = n; answer = b })) ≡ n
+verdict-number-of zero true = refl
+verdict-number-of zero false = refl
+verdict-number-of (suc n) b = refl
 
-pub verdict-answer : (test : Pt → List Pt → Bool) (x y : Float) (cs : List Float) → answerOf (verdict (asking test x y cs)) ≡ asking test x y cs .answer
-unfolding asking
-verdict-answer test x y cs = go (firstRefusal (pointTestChecks x y cs)) (test (pointOf x y) (pointsOf cs))
-  where
-    go : (n : ℕ) (t : Bool) → answerOf (verdict (unless n (λ n. record { number = n; answer = false }) (record { number = 0; answer = t }))) ≡ unless {R = Asking} n (λ n. record { number = n; answer = false }) (record { number = 0; answer = t }) .answer
-    go zero true = refl
-    go zero false = refl
-    go (suc n) t = refl
+pub verdict-number : (r : Asking Bool) → numberOf (verdict r) ≡ r .number
+verdict-number r = verdict-number-of (r .number) (r .answer)
+
+verdict-answer-of : (n : ℕ) (b : Bool) → (n ≢ 0 → b ≡ false) → answerOf (verdict (record { number = n; answer = b })) ≡ b
+verdict-answer-of zero true h = refl
+verdict-answer-of zero false h = refl
+verdict-answer-of (suc n) b h = sym (h (λ e. absurd (omega arith)))
+
+pub verdict-answer : (test : Pt → List Pt → Bool) (x y : Float) (cs : List Float) → answerOf (verdict (asking false test x y cs)) ≡ asking false test x y cs .answer
+verdict-answer test x y cs =
+    let r = asking false test x y cs in
+    verdict-answer-of (r .number) (r .answer) (λ d. ap (λ (r : Asking Bool). r .answer) (asking-refused false test x y cs d))
 
 -- ---- two verdicts that a promise allows are equal
 

@@ -1,5 +1,5 @@
 -- The crossing test by the direction at an edge, and the loop that counts the crossings' parity.
-use Prim.Native.Nat.{ℕ, _+_, _≤_, _<_}
+use Prim.Native.Nat.{_≤_}
 use mathlib.Core.Path.{_≡_, refl, sym, _∙_, ap}
 use mathlib.Core.Bool.{Bool, true, false, not, _&&_, _||_, or-comm}
 use mathlib.Core.List.{List, [], _∷_}
@@ -10,14 +10,14 @@ use lib.Signed.{ltZ}
 use Rattle.algebra.specs.Sums.{xor, xor-assoc, xor-comm}
 use Rattle.algebra.specs.Rings.{Edge, edges}
 use Rattle.algebra.proofs.Order.{leZ-not-ltZ}
-use Rattle.rules.specs.Plane.{Pt, turn, point}
-use Rattle.rules.specs.Crossing.{perp, crossed, odd, inside}
+use Rattle.rules.specs.Plane.{Pt, turn}
+use Rattle.rules.specs.Crossing.{perp, crossed, odd, oddCrossings, inside}
 use Rattle.rules.proofs.Turns.{perp-turn, below-neg, above-neg}
-use Rattle.rules.proofs.Walks.{edgesFrom, edges-first, edges-more, edges-last}
 use Rattle.grid.specs.declared.point_in_triangle.Orientation.{Orientation}
 use Rattle.grid.specs.declared.point.Point.{Point}
-use Rattle.grid.specs.Points.{onGridPt, ptOf, orientation, isCcw, isCw}
+use Rattle.grid.specs.Points.{ptOf, orientation, isCcw, isCw}
 use Rattle.grid.proofs.Turn.{ccw-left, cw-right}
+use Rattle.grid.proofs.Walks.{edge}
 
 -- ---- the sides of an edge
 
@@ -64,37 +64,25 @@ module _ (p a b : Pt) where
 abbrev pub oddIn : Pt → List (Edge Pt) → Bool
 oddIn p es = odd (λ e. crossed p (e .from) (e .to)) es
 
-module _ (p : Pt) (ps : List Pt) where
-  odd-more :
-      (s t r : Bool) (a b : Pt) (i : ℕ) → i < length ps → b ≡ point ps i → t ≡ crossed p a b → r ≡ xor s t
-      → xor s (oddIn p (edgesFrom ps a i)) ≡ xor r (oddIn p (edgesFrom ps b (i + 1)))
-  odd-more s t r a b i h e f g = rw (edges-more ps a i h, g, f, e) (sym (xor-assoc s (crossed p a (point ps i)) (oddIn p (edgesFrom ps (point ps i) (i + 1)))))
-
-  odd-last : (s t r : Bool) (a f : Pt) (i : ℕ) → length ps ≤ i → f ≡ point ps 0 → t ≡ crossed p a f → r ≡ xor s t → xor s (oddIn p (edgesFrom ps a i)) ≡ r
-  odd-last s t r a f i h e g q = rw (edges-last ps a i h, q, g, e) (ap (xor s) (xor-comm (crossed p a (point ps 0)) false))
-
 -- the parity so far and that of the edges that are left make the outline's
-pub record Walk (p : Pt) (ps : List Pt) (odd : Bool) (a : Point) (i : ℕ) : Type 0 where
-  pub from : 1 ≤ i
-  pub on : onGridPt a ≡ true
-  pub work : inside p ps ≡ xor odd (oddIn p (edgesFrom ps (ptOf a) i))
+unfoldable pub Parity : Pt → List Pt → Bool → List (Edge Pt) → Type 0
+Parity p ps odd es = inside p ps ≡ xor odd (oddIn p es)
 
-pub walk-none : (p : Pt) (ps : List Pt) → length ps ≤ 0 → false ≡ inside p ps
-unfolding inside
-walk-none p [] h = refl
-walk-none p (a ∷ l) h = absurd (omega arith)
+pub no-edges : (p : Pt) (ps : List Pt) → length ps ≤ 0 → false ≡ inside p ps
+unfolding oddCrossings
+no-edges p [] h = refl
+no-edges p (a ∷ l) h = absurd (omega arith)
 
-pub walk-first : (p : Pt) (ps : List Pt) (f : Point) → onGridPt f ≡ true → ptOf f ≡ point ps 0 → 0 < length ps → Walk p ps false f 1
-unfolding inside
-walk-first p ps f g e h = record { from = omega arith; on = g; work = rw e (ap (oddIn p) (edges-first ps h)) }
+module _ (p : Pt) (ps : List Pt) where
+  pub all-edges : Parity p ps false (edges ps)
+  unfolding oddCrossings Parity
+  all-edges = refl
 
-module _ {p : Pt} {ps : List Pt} {s : Bool} {a : Point} {i : ℕ} (w : Walk p ps s a i) where
-  pub walk-more : i < length ps → (b : Point) → onGridPt b ≡ true → ptOf b ≡ point ps i → (t r : Bool) → t ≡ crossed p (ptOf a) (ptOf b) → r ≡ xor s t → Walk p ps r b (i + 1)
-  walk-more h b g e t r f q = record {
-    from = omega (arith, w .from);
-    on = g;
-    work = w .work ∙ odd-more p ps s t r (ptOf a) (ptOf b) i h e f q;
-  }
+  module _ (s t r : Bool) (a b : Point) (is : t ≡ crossed p (ptOf a) (ptOf b)) (new : r ≡ xor s t) where
+    pub edge-more : (es : List (Edge Pt)) → Parity p ps s (edge a b ∷ es) → Parity p ps r es
+    unfolding Parity
+    edge-more es k = k ∙ sym (xor-assoc s (crossed p (ptOf a) (ptOf b)) (oddIn p es)) ∙ ap (λ (x : Bool). xor x (oddIn p es)) (sym (new ∙ ap (xor s) is))
 
-  pub walk-last : length ps ≤ i → (f : Point) → ptOf f ≡ point ps 0 → (t r : Bool) → t ≡ crossed p (ptOf a) (ptOf f) → r ≡ xor s t → r ≡ inside p ps
-  walk-last h f e t r g q = sym (w .work ∙ odd-last p ps s t r (ptOf a) (ptOf f) i h e g q)
+    pub edge-last : Parity p ps s (edge a b ∷ []) → r ≡ inside p ps
+    unfolding Parity
+    edge-last k = new ∙ ap (xor s) is ∙ sym (k ∙ ap (xor s) (xor-comm (crossed p (ptOf a) (ptOf b)) false))

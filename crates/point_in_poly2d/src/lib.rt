@@ -1,4 +1,6 @@
 // The point tests: after the crate's src/utils/point_in_poly2d.rs.
+use entries::MOST_POINTS;
+use grid::outline::outline_refusal;
 use grid::point::Point;
 use grid::point_in_triangle::Orientation;
 use grid::point_in_triangle::corner_direction;
@@ -8,10 +10,10 @@ ghost use Rattle.algebra.specs.Sums.{xor};
 ghost use Rattle.rules.specs.Grid.{pointsOf};
 ghost use Rattle.rules.specs.Crossing.{crossed, inside as insideOf, insideConvex};
 ghost use Rattle.rules.specs.Refusals.{offGrid, firstRefusal, pointTestChecks};
-ghost use Rattle.rules.specs.Entries.{pointInPoly2d, pointInConvexPoly2d};
+ghost use Rattle.rules.specs.Entries.{asking, pointInPoly2d, pointInConvexPoly2d};
 ghost use Rattle.grid.specs.Points.{onGridPt, ptOf};
 ghost use Rattle.point_in_poly2d.specs.Sides.{opposedOf, keptOf};
-ghost use Rattle.point_in_poly2d.specs.Verdicts.{verdict};
+ghost use Rattle.point_in_poly2d.specs.Verdicts.{verdict, testOf};
 
 // What a point test answers.
 pub enum Verdict {
@@ -25,19 +27,14 @@ pub enum Verdict {
 fn refusal(x: f32, y: f32, coords: &[f32]) -> u32
     ensures { λ r. ⌜ r ≡ firstRefusal (pointTestChecks x y (now (coords .entry))) ⌝ }
 {
-    if coords.len() % 2 == 1 {
-        return 1;
-    }
-    if 512 < coords.len() / 2 {
-        return 3;
+    let number = outline_refusal(0, MOST_POINTS, coords);
+    if number != 0 {
+        return number;
     }
     if !grid::on_grid(x) {
         return 4;
     }
     if !grid::on_grid(y) {
-        return 4;
-    }
-    if grid::off_grid(coords) {
         return 4;
     }
     0
@@ -91,22 +88,6 @@ fn odd_crossings(p: Point, coords: &[f32]) -> bool
     differ(odd, crosses(p, a, first))
 }
 
-// Whether p = (x, y) is inside the outline with these coordinates: inside an odd number of times.
-pub fn point_in_poly2d(x: f32, y: f32, coords: &[f32]) -> Verdict
-    ensures { λ r. ⌜ r ≡ verdict (pointInPoly2d x y (now (coords .entry))) ⌝ }
-{
-    let number = refusal(x, y, coords);
-    if number != 0 {
-        return Verdict::Refused(number);
-    }
-    let p = Point { x, y };
-    if odd_crossings(p, coords) {
-        Verdict::Inside
-    } else {
-        Verdict::Outside
-    }
-}
-
 // Whether two directions are a left and a right.
 fn opposed(s: Orientation, t: Orientation) -> bool
     ensures { λ r. ⌜ r ≡ opposedOf s t ⌝ }
@@ -156,18 +137,45 @@ fn one_side(p: Point, coords: &[f32]) -> bool
     !opposed(sign, corner_direction(a, first, p))
 }
 
-// Whether p = (x, y) is inside a convex outline with these coordinates, whichever way round it goes.
-pub fn point_in_convex_poly2d(x: f32, y: f32, coords: &[f32]) -> Verdict
-    ensures { λ r. ⌜ r ≡ verdict (pointInConvexPoly2d x y (now (coords .entry))) ⌝ }
+// One of the two tests.
+fn passes(p: Point, coords: &[f32], convex: bool) -> bool
+    requires { ⌜ onGridPt p ≡ true ⌝ }
+    requires { ⌜ offGrid (now coords) ≡ false ⌝ }
+    ensures { λ r. ⌜ r ≡ testOf convex (ptOf p) (pointsOf (now (coords .entry))) ⌝ }
+{
+    if convex {
+        one_side(p, coords)
+    } else {
+        odd_crossings(p, coords)
+    }
+}
+
+// What either test answers of (x, y): the refusal, or what the test says.
+pub fn ask(x: f32, y: f32, coords: &[f32], convex: bool) -> Verdict
+    ensures { λ r. ⌜ r ≡ verdict (asking false (testOf convex) x y (now (coords .entry))) ⌝ }
 {
     let number = refusal(x, y, coords);
     if number != 0 {
         return Verdict::Refused(number);
     }
     let p = Point { x, y };
-    if one_side(p, coords) {
+    if passes(p, coords, convex) {
         Verdict::Inside
     } else {
         Verdict::Outside
     }
+}
+
+// Whether (x, y) is inside the outline with these coordinates: it crosses an odd number of edges.
+pub fn point_in_poly2d(x: f32, y: f32, coords: &[f32]) -> Verdict
+    ensures { λ r. ⌜ r ≡ verdict (pointInPoly2d x y (now (coords .entry))) ⌝ }
+{
+    ask(x, y, coords, false)
+}
+
+// Whether (x, y) is inside a convex outline with these coordinates, whichever way round it goes.
+pub fn point_in_convex_poly2d(x: f32, y: f32, coords: &[f32]) -> Verdict
+    ensures { λ r. ⌜ r ≡ verdict (pointInConvexPoly2d x y (now (coords .entry))) ⌝ }
+{
+    ask(x, y, coords, true)
 }

@@ -17,9 +17,9 @@ use Rattle.rules.specs.Plane.{Pt, point, same}
 use Rattle.rules.specs.Grid.{pointsOf}
 use Rattle.rules.specs.Cut.{Cut, stuck, done, cut}
 use Rattle.rules.specs.Measure.{points, Apart}
-use Rattle.rules.specs.Refusals.{Row, _gives_, firstRefusal, offGrid, equalNeighbours, isStuck, noEar, outOfRange, countChecks, outlineChecks, beforeCutting, cutterChecks, listChecks, beforeTriangles, mergerChecks}
+use Rattle.rules.specs.Refusals.{Row, _gives_, firstRefusal, equalNeighbours, isStuck, noEar, outOfRange, countChecks, outlineChecks, beforeCutting, cutterChecks, listChecks, beforeTriangles, mergerChecks}
 use Rattle.rules.specs.Entries.{cutter}
-use Rattle.rules.proofs.Rows.{passes, applies, row-off, row-on, no-rows, front-gives, front-none, front-off, front-skips}
+use Rattle.rules.proofs.Rows.{passes, applies, row-on, front-gives, front-none, front-off, front-skips}
 use Rattle.rules.proofs.Points.{differ}
 use Rattle.rules.proofs.Outline.{all-points}
 use Rattle.rules.proofs.Outlines.{Outlined, outlined, past-outline}

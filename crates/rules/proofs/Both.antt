@@ -2,7 +2,7 @@
 -- No piece turns right where the cut's last triangle, which is not tested, is not clockwise.
 use Prim.Native.Nat.{ℕ, _*_, _-_, _/_, _%_, _≤_, _<_}
 use mathlib.Core.Path.{_≡_, refl, sym, _∙_, ap, subst}
-use mathlib.Core.Bool.{true, false, not, _||_}
+use mathlib.Core.Bool.{false, not, _||_}
 use mathlib.Core.List.{List, [], _∷_, map}
 use native.Mathlib.Omega.{arith}
 use native.Mathlib.Nat.{mul-div-cancel-left, mul-mod-right}
@@ -20,8 +20,8 @@ use Rattle.rules.specs.Grid.{pointsOf}
 use Rattle.rules.specs.Crossing.{odd, oddCrossings}
 use Rattle.rules.specs.Cut.{done, cut}
 use Rattle.rules.specs.Layout.{flatten, triples}
-use Rattle.rules.specs.Refusals.{_gives_, firstRefusal, outOfRange, outlineChecks, listChecks, beforeTriangles, mergerChecks}
-use Rattle.rules.specs.Entries.{Cutting, trianglesFor, cutter, merger, writtenTriangles, writtenPieces}
+use Rattle.rules.specs.Refusals.{firstRefusal, outOfRange, listChecks, beforeTriangles, mergerChecks}
+use Rattle.rules.specs.Entries.{cutter, merger, writtenTriangles, writtenPieces}
 use Rattle.rules.specs.Measure.{points, area2, NotRight, NotClockwise, NoneRight}
 use Rattle.rules.proofs.Ears.{cut-not-right}
 use Rattle.rules.proofs.Pieces.{merge-no-right}

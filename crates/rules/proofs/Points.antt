@@ -1,5 +1,5 @@
 -- Equal points: `same` says that two points are equal, both ways.
-use mathlib.Core.Path.{_≡_, sym, subst}
+use mathlib.Core.Path.{_≡_, subst}
 use mathlib.Core.Logic.{_≢_}
 use mathlib.Core.Bool.{true, false, _&&_}
 use lib.IntN.{ℤ}

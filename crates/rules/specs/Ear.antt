@@ -23,10 +23,13 @@ named c i = eqb i (c .before) || (eqb i (c .at) || eqb i (c .after))
 unfoldable pub blocks : Corner ℕ → Pt → Pt → Pt → ℕ → Pt → Bool
 blocks c p1 p p3 i q = not (named c i) && inTriangle p1 p p3 q
 
+abbrev pub blockedBy : List Pt → Corner ℕ → ℕ → Bool
+blockedBy ps c i = blocks c (point ps (c .before)) (point ps (c .at)) (point ps (c .after)) i (point ps i)
+
 -- some point of the whole outline does, already cut ones included
 unfoldable pub blocked : List Pt → Corner ℕ → Bool
 unfolding blocks
-blocked ps c = any (λ i. blocks c (point ps (c .before)) (point ps (c .at)) (point ps (c .after)) i (point ps i)) (countFrom 0 (length ps))
+blocked ps c = any (blockedBy ps c) (countFrom 0 (length ps))
 
 -- the turn of (before, corner, after) is left and no other point is in that triangle
 abbrev pub isEar : List Pt → Corner ℕ → Bool

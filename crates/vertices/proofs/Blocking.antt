@@ -12,13 +12,13 @@ use lib.ListN.{length}
 use lib.Ieee.{Float}
 use Rattle.algebra.specs.Lists.{any, countFrom}
 use Rattle.algebra.specs.Rings.{Corner}
-use Rattle.rules.specs.Plane.{Pt, minus, turn, inTriangle, point}
+use Rattle.rules.specs.Plane.{Pt, minus, turn, inTriangle, point, turnsLeft}
 use Rattle.rules.specs.Root.{pointiness}
 use Rattle.rules.specs.Ear as rules
 use Rattle.grid.specs.declared.point_in_triangle.Orientation.{Orientation}
 use Rattle.grid.specs.Points.{orientation, isCcw}
 use Rattle.grid.proofs.Turn.{ccw-left}
-use Rattle.vertices.specs.Ears.{blocksOf, fromEar, earOf}
+use Rattle.vertices.specs.Ears.{fromEar, earOf}
 use Rattle.vertices.specs.declared.ear.Ear.the-variants.{No, Pointed}
 
 -- ---- one point
@@ -32,33 +32,32 @@ and-true true = refl
 and-true false = refl
 
 module _ (t : Corner ℕ) (a b c : Pt) (i : ℕ) (q : Pt) where
-  pub not-in : inTriangle a b c q ≡ false → false ≡ blocksOf t a b c i q
-  unfolding blocksOf
+  pub not-in : inTriangle a b c q ≡ false → false ≡ rules.blocks t a b c i q
+  unfolding rules.blocks
   not-in e = sym (ap (λ (s : Bool). not (rules.named t i) && s) e ∙ and-false (not (rules.named t i)))
 
-  pub is-before : i ≡ t .before → false ≡ blocksOf t a b c i q
-  unfolding blocksOf
+  pub is-before : i ≡ t .before → false ≡ rules.blocks t a b c i q
+  unfolding rules.blocks
   is-before e = rw (eq-eqb i (t .before) e)
 
   module _ (not-before : i ≡ t .before → ⊥) where
-    pub is-at : i ≡ t .at → false ≡ blocksOf t a b c i q
-    unfolding blocksOf
+    pub is-at : i ≡ t .at → false ≡ rules.blocks t a b c i q
+    unfolding rules.blocks
     is-at e = rw (ne-eqb i (t .before) not-before, eq-eqb i (t .at) e)
 
-    pub is-other : (i ≡ t .at → ⊥) → inTriangle a b c q ≡ true → not (eqb i (t .after)) ≡ blocksOf t a b c i q
-    unfolding blocksOf
+    pub is-other : (i ≡ t .at → ⊥) → inTriangle a b c q ≡ true → not (eqb i (t .after)) ≡ rules.blocks t a b c i q
+    unfolding rules.blocks
     is-other not-at e =
         sym (ap (λ (s : Bool). not (rules.named t i) && s) e ∙ and-true (not (rules.named t i)) ∙ rw (ne-eqb i (t .before) not-before, ne-eqb i (t .at) not-at))
 
 -- by the points of the outline
-blocks-is : (ps : List Pt) (t : Corner ℕ) (i : ℕ) (a b c q : Pt) → a ≡ point ps (t .before) → b ≡ point ps (t .at) → c ≡ point ps (t .after) → q ≡ point ps i → blocksOf t a b c i q ≡ rules.blocks ps t i
-unfolding blocksOf rules.blocks
+blocks-is : (ps : List Pt) (t : Corner ℕ) (i : ℕ) (a b c q : Pt) → a ≡ point ps (t .before) → b ≡ point ps (t .at) → c ≡ point ps (t .after) → q ≡ point ps i → rules.blocks t a b c i q ≡ rules.blockedBy ps t i
 blocks-is ps t i a b c q e f g h = rw (e, f, g, h)
 
 -- ---- all points: what is left to ask once those below i are passed
 
 unfoldable pub blockedFrom : List Pt → Corner ℕ → ℕ → Bool
-blockedFrom ps t i = any (rules.blocks ps t) (countFrom i (length ps - i))
+blockedFrom ps t i = any (rules.blockedBy ps t) (countFrom i (length ps - i))
 
 module _ (ps : List Pt) (t : Corner ℕ) where
   pub blocked-first : rules.blocked ps t ≡ blockedFrom ps t 0
@@ -70,12 +69,12 @@ module _ (ps : List Pt) (t : Corner ℕ) where
   blocked-end i h w = let e : length ps - i ≡ 0 = omega arith in sym (w ∙ rw e)
 
   module _ (i : ℕ) (h : i < length ps) (a b c q : Pt) (ea : a ≡ point ps (t .before)) (eb : b ≡ point ps (t .at)) (ec : c ≡ point ps (t .after)) (eq : q ≡ point ps i)
-      (s : Bool) (is : s ≡ blocksOf t a b c i q) (w : rules.blocked ps t ≡ blockedFrom ps t i) where
+      (s : Bool) (is : s ≡ rules.blocks t a b c i q) (w : rules.blocked ps t ≡ blockedFrom ps t i) where
     next : rules.blocked ps t ≡ (s || blockedFrom ps t (i + 1))
     unfolding blockedFrom
     next =
         let e : length ps - i ≡ suc (length ps - (i + 1)) = omega arith in
-        w ∙ rw (e, ← add-one i) (ap (λ (x : Bool). x || any (rules.blocks ps t) (countFrom (i + 1) (length ps - (i + 1)))) (sym (is ∙ blocks-is ps t i a b c q ea eb ec eq)))
+        w ∙ rw (e, ← add-one i) (ap (λ (x : Bool). x || any (rules.blockedBy ps t) (countFrom (i + 1) (length ps - (i + 1)))) (sym (is ∙ blocks-is ps t i a b c q ea eb ec eq)))
 
     pub blocked-here : s ≡ true → true ≡ rules.blocked ps t
     blocked-here e = sym (next ∙ ap (λ (x : Bool). x || blockedFrom ps t (i + 1)) e)
@@ -88,10 +87,10 @@ module _ (ps : List Pt) (t : Corner ℕ) where
 module _ (ps : List Pt) (t : Corner ℕ) where
   pub left-is :
       (a b c : Pt) → a ≡ point ps (t .before) → b ≡ point ps (t .at) → c ≡ point ps (t .after) → (d : Orientation) → d ≡ orientation (turn a b c)
-      → (s : Bool) → s ≡ isCcw d → rules.turnsLeft ps (t .before) (t .at) (t .after) ≡ s
+      → (s : Bool) → s ≡ isCcw d → turnsLeft ps (t .before) (t .at) (t .after) ≡ s
   left-is a b c e f g d i s j = sym (j ∙ ap isCcw i ∙ ccw-left (turn a b c) ∙ rw (e, f, g))
 
-  ear-is : (l s : Bool) → rules.turnsLeft ps (t .before) (t .at) (t .after) ≡ l → rules.blocked ps t ≡ s → earOf ps t ≡ fromEar (cond (l && not s) (rules.pointed (rules.pointinessAt ps t)) rules.none)
+  ear-is : (l s : Bool) → turnsLeft ps (t .before) (t .at) (t .after) ≡ l → rules.blocked ps t ≡ s → earOf ps t ≡ fromEar (cond (l && not s) (rules.pointed (rules.pointinessAt ps t)) rules.none)
   unfolding earOf
   ear-is l s e f = ap fromEar (opened ∙ ap (λ (x : Bool). cond x (rules.pointed (rules.pointinessAt ps t)) rules.none) (flags e f))
     where
@@ -101,14 +100,14 @@ module _ (ps : List Pt) (t : Corner ℕ) where
       flags : {x y : Bool} → x ≡ l → y ≡ s → (x && not y) ≡ (l && not s)
       flags p q = cc
 
-  pub no-left : rules.turnsLeft ps (t .before) (t .at) (t .after) ≡ false → No ≡ earOf ps t
+  pub no-left : turnsLeft ps (t .before) (t .at) (t .after) ≡ false → No ≡ earOf ps t
   no-left e = sym (ear-is false (rules.blocked ps t) e refl)
 
-  pub is-blocked : rules.turnsLeft ps (t .before) (t .at) (t .after) ≡ true → rules.blocked ps t ≡ true → No ≡ earOf ps t
+  pub is-blocked : turnsLeft ps (t .before) (t .at) (t .after) ≡ true → rules.blocked ps t ≡ true → No ≡ earOf ps t
   is-blocked e f = sym (ear-is true true e f)
 
   pub is-pointed :
-      rules.turnsLeft ps (t .before) (t .at) (t .after) ≡ true → rules.blocked ps t ≡ false → (q p s : Pt) → q ≡ point ps (t .before) → p ≡ point ps (t .at) → s ≡ point ps (t .after)
+      turnsLeft ps (t .before) (t .at) (t .after) ≡ true → rules.blocked ps t ≡ false → (q p s : Pt) → q ≡ point ps (t .before) → p ≡ point ps (t .at) → s ≡ point ps (t .after)
       → {v : Float} → v ≡ pointiness (minus q p) (minus s p) → Pointed v ≡ earOf ps t
   is-pointed e f q p s eq ep es i = ap Pointed (i ∙ rw (eq, ep, es) opened) ∙ sym (ear-is true false e f)
     where

@@ -1,9 +1,8 @@
 -- The code's ear as the rules' ear.
 use Prim.Native.Nat.{ℕ, _<_}
-use mathlib.Core.Bool.{Bool, not, _&&_}
 use mathlib.Core.List.{List}
 use Rattle.algebra.specs.Rings.{Corner}
-use Rattle.rules.specs.Plane.{Pt, inTriangle}
+use Rattle.rules.specs.Plane.{Pt}
 use Rattle.rules.specs.Ear as rules
 use Rattle.vertices.specs.declared.ear.Ear.{Ear}
 use Rattle.vertices.specs.declared.ear.Ear.the-variants.{No, Pointed}
@@ -17,10 +16,6 @@ pub record Within (n : ℕ) (t : Triangle) : Type 0 where
   pub before : t .before < n
   pub at : t .at < n
   pub after : t .after < n
-
--- point number i, which is q, is another point and in the triangle a, b, c
-unfoldable pub blocksOf : Corner ℕ → Pt → Pt → Pt → ℕ → Pt → Bool
-blocksOf t a b c i q = not (rules.named t i) && inTriangle a b c q
 
 abbrev pub fromEar : rules.Ear → Ear
 fromEar rules.none = No

@@ -9,7 +9,7 @@ ghost use Rattle.rules.specs.Grid.{pointsOf};
 ghost use Rattle.rules.specs.Ear as Rules;
 ghost use Rattle.rules.specs.Refusals.{offGrid};
 ghost use Rattle.grid.specs.Points.{onGridPt, ptOf};
-ghost use Rattle.vertices.specs.Ears.{cornerOf, Within, blocksOf, earOf};
+ghost use Rattle.vertices.specs.Ears.{cornerOf, Within, earOf};
 
 pub enum Ear {
     No,
@@ -29,7 +29,7 @@ fn blocks(t: Triangle, p1: Point, p: Point, p3: Point, i: usize, q: Point) -> bo
     requires { ⌜ onGridPt p ≡ true ⌝ }
     requires { ⌜ onGridPt p3 ≡ true ⌝ }
     requires { ⌜ onGridPt q ≡ true ⌝ }
-    ensures { λ r. ⌜ r ≡ blocksOf (cornerOf t) (ptOf p1) (ptOf p) (ptOf p3) i (ptOf q) ⌝ }
+    ensures { λ r. ⌜ r ≡ Rules.blocks (cornerOf t) (ptOf p1) (ptOf p) (ptOf p3) i (ptOf q) ⌝ }
 {
     if is_point_in_triangle(q, p1, p, p3) {
         if i == t.before {

@@ -2,7 +2,7 @@
 use mathlib.Core.Path.{_≡_, sym, _∙_}
 use borrow.Author.Tests.{not-true, not-false}
 use Rattle.rules.specs.Grid.{pointsOf}
-use Rattle.rules.specs.Ear as rules
+use Rattle.rules.specs.Plane.{turnsLeft}
 use Rattle.rules.proofs.Coordinates.{point-fits}
 use denote.Ref.{now}
 use Rattle.vertices.specs.Ears.{cornerOf}
@@ -27,7 +27,7 @@ is-ccw-requires : tie.Need-is-ccw-requires
 is-ccw-requires c κs = search needs
 
 -- whether the corner turns left
-turned : (c : tie.After-is-ccw) → rules.turnsLeft (pointsOf (now (c .before .before .before .before .before .before .args .coords))) (c .before .before .before .before .before .before .args .t .before) (c .before .before .before .before .before .before .args .t .at) (c .before .before .before .before .before .before .args .t .after) ≡ c .is-ccw .result
+turned : (c : tie.After-is-ccw) → turnsLeft (pointsOf (now (c .before .before .before .before .before .before .args .coords))) (c .before .before .before .before .before .before .args .t .before) (c .before .before .before .before .before .before .args .t .at) (c .before .before .before .before .before .before .args .t .after) ≡ c .is-ccw .result
 turned c = left-is (pointsOf (now (c .before .before .before .before .before .before .args .coords))) (cornerOf (c .before .before .before .before .before .before .args .t)) _ _ _ (c .before .before .before .before .point-at .ensures .1) (c .before .before .before .point-at2 .ensures .1) (c .before .before .point-at3 .ensures .1) _ (c .before .corner-direction .ensures) _ (c .is-ccw .ensures)
 
 returns : tie.Need-returns
