@@ -20,7 +20,7 @@ use Rattle.rules.specs.Refusals.{offGrid}
 use Rattle.rules.proofs.Ascending.{below, AscendingCorners, met-ascending, corners-ascending, same-corner}
 use Rattle.rules.proofs.FloatOrder.{le-refl, le-total, le-trans}
 use Rattle.rules.proofs.Neighbours.{Met}
-use Rattle.rules.proofs.Pointiness.{ear-finite, finite-number}
+use Rattle.rules.proofs.Pointiness.{ear-number}
 
 same-pointed : {f g : Float} → pointed f ≡ pointed g → f ≡ g
 same-pointed e = cc
@@ -114,7 +114,7 @@ module _ (cs : List Float) (grid : offGrid cs ≡ false) {ring : List ℕ} (met 
   ascending = corners-ascending (met-ascending (pointsOf cs) (length (pointsOf cs)) met)
 
   numbers : Numbers (pointsOf cs) (corners ring)
-  numbers = each-all (λ d g e. finite-number g (ear-finite cs grid d e)) (corners ring)
+  numbers = each-all (ear-number cs grid) (corners ring)
 
   pub taken→pointiest : {c : Corner ℕ} {f : Float} → choose (pointsOf cs) nothing (corners ring) ≡ best c f → Pointiest (pointsOf cs) (corners ring) c f
   taken→pointiest = chosen-pointiest (pointsOf cs) ascending numbers

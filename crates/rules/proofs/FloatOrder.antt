@@ -22,50 +22,45 @@ SignedLe false a true b = (a ≡ 0) × (b ≡ 0)
 SignedLe true a false b = Unit {0}
 SignedLe true a true b = b ≤ a
 
-pub passed→le : (s : Bool) (a : ℕ) (t : Bool) (b : ℕ) → atMost s a t b ≡ true → SignedLe s a t b
-passed→le false a false b e = go (ltb a b) refl (eqb a b) refl e
+-- of one sign, e being the test that both are equal
+same-passed : (a b : ℕ) (e z : Bool) → (e ≡ true → a ≡ b) → (ltb a b || (e && (true || z))) ≡ true → a ≤ b
+same-passed a b true z same h = omega (arith, same refl)
+same-passed a b false z same h = go (ltb a b) refl h
   where
-    go : (x : Bool) → ltb a b ≡ x → (y : Bool) → eqb a b ≡ y → (x || (y && (true || eqb a 0))) ≡ true → a ≤ b
-    go true p y q e = omega (arith, ltb-is-true a b p)
-    go false p true q e = omega (arith, eqb-true a b q)
-    go false p false q e = impossible (cc)
-passed→le false a true b e = go (eqb a b) refl (eqb a 0) refl e
+    go : (t : Bool) → ltb a b ≡ t → (t || false) ≡ true → a ≤ b
+    go true q h = omega (arith, ltb-is-true a b q)
+    go false q h = impossible (cc)
+
+same-le : (a b : ℕ) (e z : Bool) → (a ≡ b → e ≡ true) → a ≤ b → (ltb a b || (e && (true || z))) ≡ true
+same-le a b e z same h = go (ltb a b) refl
+  where
+    go : (t : Bool) → ltb a b ≡ t → (t || (e && (true || z))) ≡ true
+    go true q = refl
+    go false q = let k : e ≡ true = same (omega (arith, ltb-false a b q)) in rw k
+
+pub passed→le : (s : Bool) (a : ℕ) (t : Bool) (b : ℕ) → atMost s a t b ≡ true → SignedLe s a t b
+passed→le false a false b h = same-passed a b (eqb a b) (eqb a 0) (eqb-true a b) h
+passed→le false a true b h = go (eqb a b) refl (eqb a 0) refl h
   where
     go : (x : Bool) → eqb a b ≡ x → (y : Bool) → eqb a 0 ≡ y → (false || (x && (false || y))) ≡ true → (a ≡ 0) × (b ≡ 0)
-    go true p true q e = (eqb-true a 0 q, omega (arith, eqb-true a b p, eqb-true a 0 q))
-    go true p false q e = impossible (cc)
-    go false p y q e = impossible (cc)
-passed→le true a false b e = tt
-passed→le true a true b e = go (ltb b a) refl (eqb a b) refl e
-  where
-    go : (x : Bool) → ltb b a ≡ x → (y : Bool) → eqb a b ≡ y → (x || (y && (true || eqb a 0))) ≡ true → b ≤ a
-    go true p y q e = omega (arith, ltb-is-true b a p)
-    go false p true q e = omega (arith, eqb-true a b q)
-    go false p false q e = impossible (cc)
-
-same-sign : (a b : ℕ) (z : Bool) → a ≤ b → (ltb a b || (eqb a b && (true || z))) ≡ true
-same-sign a b z h = go (ltb a b) refl
-  where
-    go : (x : Bool) → ltb a b ≡ x → (x || (eqb a b && (true || z))) ≡ true
-    go true e = refl
-    go false e = let q : a ≡ b = omega (arith, ltb-false a b e) in rw (q, eqb-same b)
+    go true p true q h = (eqb-true a 0 q, omega (arith, eqb-true a b p, eqb-true a 0 q))
+    go true p false q h = impossible (cc)
+    go false p y q h = impossible (cc)
+passed→le true a false b h = tt
+passed→le true a true b h = same-passed b a (eqb a b) (eqb a 0) (λ q. sym (eqb-true a b q)) h
 
 le→passed : (s : Bool) (a : ℕ) (t : Bool) (b : ℕ) → SignedLe s a t b → atMost s a t b ≡ true
-le→passed false a false b h = same-sign a b (eqb a 0) h
+le→passed false a false b h = same-le a b (eqb a b) (eqb a 0) (λ q. rw (q, eqb-same b)) h
 le→passed false a true b h = rw (h .0, h .1)
 le→passed true a false b h = go (ltb 0 (a + b)) refl
   where
-    go : (x : Bool) → ltb 0 (a + b) ≡ x → (x || (eqb a b && (false || eqb a 0))) ≡ true
-    go true e = refl
-    go false e =
-        let p : a ≡ 0 = omega (arith, ltb-false 0 (a + b) e) in
-        let q : b ≡ 0 = omega (arith, ltb-false 0 (a + b) e) in
-        rw (p, q)
-le→passed true a true b h = go (ltb b a) refl
-  where
-    go : (x : Bool) → ltb b a ≡ x → (x || (eqb a b && (true || eqb a 0))) ≡ true
-    go true e = refl
-    go false e = let q : a ≡ b = omega (arith, ltb-false b a e) in rw (q, eqb-same b)
+    go : (t : Bool) → ltb 0 (a + b) ≡ t → (t || (eqb a b && (false || eqb a 0))) ≡ true
+    go true q = refl
+    go false q =
+        let a0 : a ≡ 0 = omega (arith, ltb-false 0 (a + b) q) in
+        let b0 : b ≡ 0 = omega (arith, ltb-false 0 (a + b) q) in
+        rw (a0, b0)
+le→passed true a true b h = same-le b a (eqb a b) (eqb a 0) (λ q. rw (q, eqb-same a)) h
 
 failed→ge : (s : Bool) (a : ℕ) (t : Bool) (b : ℕ) → atMost s a t b ≡ false → SignedLe t b s a
 failed→ge false a false b e = ltb-false a b (or-false (ltb a b) (eqb a b && (true || eqb a 0)) e .0)

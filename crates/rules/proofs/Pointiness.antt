@@ -7,7 +7,7 @@ use mathlib.Core.Bool.{Bool, true, false, cond}
 use mathlib.Core.List.{List, [], _∷_}
 use native.Mathlib.Nat.{le-trans}
 use lib.Dec.{lit≤}
-use lib.IntN.{pos, natAbs}
+use lib.IntN.{ℤ, pos, natAbs}
 use lib.Pow.{pow-pos, pow-mono}
 use lib.Ieee.{Float, nan, inf, fin, binary32, add, mul, div, ofInt, isNan}
 use lib.Ieee.Scale.{finite}
@@ -60,17 +60,20 @@ reciprocal-bounded d p h =
     let j : scale m ≤ 23 = scale-high m (scale m) p (r .scaled) in
     subst (Bounded 1) (sym (reciprocal-is d)) (inverse-bounded (root m) k (2 ^ scale m) (pow-pos (scale m)) (le-trans (pow-mono j) (r .low)) (root-value m k (scale m) p h r .0))
 
-module _ (d e : Pt) (D : Side d) (E : Side e) (some-d : 1 ≤ natAbs (squareOf d)) (some-e : 1 ≤ natAbs (squareOf e)) where
-  pointiness-bounded : Bounded (2 ^ 23) (pointiness d e)
-  pointiness-bounded =
-      let r = reciprocal-bounded d some-d (square-small D) in
-      let s = reciprocal-bounded e some-e (square-small E) in
-      let dx = mul-bounded (ofInt binary32 (d .x)) (reciprocal d) 2048 1 (lit≤ tt) (int-bounded (d .x) 2048 (lit≤ tt) (D .x-small)) r in
-      let dy = mul-bounded (ofInt binary32 (d .y)) (reciprocal d) 2048 1 (lit≤ tt) (int-bounded (d .y) 2048 (lit≤ tt) (D .y-small)) r in
-      let ex = mul-bounded (ofInt binary32 (e .x)) (reciprocal e) 2048 1 (lit≤ tt) (int-bounded (e .x) 2048 (lit≤ tt) (E .x-small)) s in
-      let ey = mul-bounded (ofInt binary32 (e .y)) (reciprocal e) 2048 1 (lit≤ tt) (int-bounded (e .y) 2048 (lit≤ tt) (E .y-small)) s in
-      subst (Bounded (2 ^ 23)) (sym (pointiness-is d e))
-      (add-bounded _ _ 4194304 4194304 (lit≤ tt) (mul-bounded _ _ 2048 2048 (lit≤ tt) dx ex) (mul-bounded _ _ 2048 2048 (lit≤ tt) dy ey))
+-- a coordinate of the vector, scaled by the reciprocal, and a product of two such
+scaled-bounded : (z : ℤ) (r : Float) → natAbs z ≤ 2048 → Bounded 1 r → Bounded 2048 (mul binary32 (ofInt binary32 z) r)
+scaled-bounded z r h k = mul-bounded (ofInt binary32 z) r 2048 1 (lit≤ tt) (int-bounded z 2048 (lit≤ tt) h) k
+
+product-bounded : (x y : Float) → Bounded 2048 x → Bounded 2048 y → Bounded 4194304 (mul binary32 x y)
+product-bounded x y h k = mul-bounded x y 2048 2048 (lit≤ tt) h k
+
+pointiness-bounded : (d e : Pt) → Side d → Side e → 1 ≤ natAbs (squareOf d) → 1 ≤ natAbs (squareOf e) → Bounded (2 ^ 23) (pointiness d e)
+pointiness-bounded d e h k some-d some-e =
+    let r = reciprocal-bounded d some-d (square-small h) in
+    let s = reciprocal-bounded e some-e (square-small k) in
+    let xs = product-bounded _ _ (scaled-bounded (d .x) (reciprocal d) (h .x-small) r) (scaled-bounded (e .x) (reciprocal e) (k .x-small) s) in
+    let ys = product-bounded _ _ (scaled-bounded (d .y) (reciprocal d) (h .y-small) r) (scaled-bounded (e .y) (reciprocal e) (k .y-small) s) in
+    subst (Bounded (2 ^ 23)) (sym (pointiness-is d e)) (add-bounded _ _ 4194304 4194304 (lit≤ tt) xs ys)
 
 -- ---- of an ear
 
@@ -86,25 +89,26 @@ before-differs a b c h e = let z : turn a b c ≡ pos 0 = rw (← e) (turn-first
 after-differs : (a b c : Pt) → left a b c ≡ true → c ≢ b
 after-differs a b c h e = let z : turn a b c ≡ pos 0 = rw e (turn-last a b) in omega lin
 
-module _ (ps : List Pt) (grid : Each GridPoint ps) (c : Corner ℕ) {f : Float} (is-ear : ear ps c ≡ pointed f) where
-  ear-bounded : Bounded (2 ^ 23) f
-  ear-bounded =
-      let q = point ps (c .before) in
-      let p = point ps (c .at) in
-      let s = point ps (c .after) in
-      let l = ear-left ps c f is-ear in
-      let at = grid-point-at ps (c .at) grid in
-      subst (Bounded (2 ^ 23)) (ear-is ps c f is-ear)
-      (pointiness-bounded (minus q p) (minus s p) (side (grid-point-at ps (c .before) grid) at) (side (grid-point-at ps (c .after) grid) at) (square-some q p (before-differs q p s l)) (square-some s p (after-differs q p s l)))
+ear-bounded : (ps : List Pt) → Each GridPoint ps → (c : Corner ℕ) (f : Float) → ear ps c ≡ pointed f → Bounded (2 ^ 23) f
+ear-bounded ps grid c f is-ear =
+    let q = point ps (c .before) in
+    let p = point ps (c .at) in
+    let s = point ps (c .after) in
+    let l = ear-left ps c f is-ear in
+    let at = grid-point-at ps (c .at) grid in
+    subst (Bounded (2 ^ 23)) (ear-is ps c f is-ear)
+    (pointiness-bounded (minus q p) (minus s p) (side (grid-point-at ps (c .before) grid) at) (side (grid-point-at ps (c .after) grid) at) (square-some q p (before-differs q p s l)) (square-some s p (after-differs q p s l)))
 
--- the theorem, for coordinates on the grid
-module _ (cs : List Float) (grid : offGrid cs ≡ false) (c : Corner ℕ) {f : Float} (is-ear : ear (pointsOf cs) c ≡ pointed f) where
-  pub ear-finite : finite f ≡ true
-  ear-finite = bounded-finite (2 ^ 23) f (ear-bounded (pointsOf cs) (grid-points cs grid) c is-ear)
+-- ---- the theorem: where all coordinates are on the grid it is finite, and so no NaN
 
--- so it is no NaN
-pub finite-number : (x : Float) → finite x ≡ true → isNan x ≡ false
+pub ear-finite : (cs : List Float) → offGrid cs ≡ false → (c : Corner ℕ) (f : Float) → ear (pointsOf cs) c ≡ pointed f → finite f ≡ true
+ear-finite cs grid c f is-ear = bounded-finite (2 ^ 23) f (ear-bounded (pointsOf cs) (grid-points cs grid) c f is-ear)
+
+finite-number : (x : Float) → finite x ≡ true → isNan x ≡ false
 unfolding isNan
 finite-number nan h = impossible (cc)
 finite-number (inf s) h = refl
 finite-number (fin s m e) h = refl
+
+pub ear-number : (cs : List Float) → offGrid cs ≡ false → (c : Corner ℕ) (f : Float) → ear (pointsOf cs) c ≡ pointed f → isNan f ≡ false
+ear-number cs grid c f is-ear = finite-number f (ear-finite cs grid c f is-ear)
