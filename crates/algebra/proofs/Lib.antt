@@ -1,6 +1,7 @@
 pub mod Integers
 pub mod Solve
 pub mod Order
+pub mod Sizes
 pub mod Equal
 pub mod Lists
 pub mod Counting

@@ -11,8 +11,11 @@ use lib.Ieee.{Float, nan, inf, fin, binary32, up, down, size, nearest, units, ro
 use lib.Ieee.Digits.{size-lt, size-le}
 use lib.Ieee.Fits.{nearest-le, core, round-is, down-pos}
 use borrow.Author.Tests.{lt-ltb, le-ltb, le-leb, ltb-true, ltb-false, eq-eqb, eqb-true, eqb-false}
+use Rattle.algebra.proofs.Equal.{and-true-l}
+use Rattle.algebra.proofs.Sizes.{natAbs-add}
 use Rattle.rules.specs.Grid.{signed, wholeOf, onGrid}
-use Rattle.grid.proofs.Value.{Is, left-num, right-num, add-is, sub-is, natAbs-signed, natAbs-add}
+use Rattle.rules.proofs.GridSizes.{natAbs-signed}
+use Rattle.grid.proofs.Value.{Is, left-num, right-num, add-is, sub-is}
 use Rattle.grid.proofs.Turn.{grid-within}
 use lib.Ieee.Exact.{HasValue, units-val}
 
@@ -111,10 +114,6 @@ back-is s m e h =
     (pos (k .0) -ℤ pos 12582912, sub-is binary32 (add binary32 (fin s m e) bigF) bigF (pos (k .0)) (pos 12582912) i big-is (close (k .0) (k .2)))
 
 -- ---- two floats that are equal
-and-left : (a b : Bool) → (a && b) ≡ true → a ≡ true
-and-left true b h = refl
-and-left false b h = h
-
 -- one is whole where the other is
 eq-whole : (y : Float) (z : ℤ) (s : Bool) (m : ℕ) (e : ℤ) → Is y z → eq y (fin s m e) ≡ true → m * up e % down e ≡ 0
 unfolding eq
@@ -123,7 +122,7 @@ eq-whole (inf u) z s m e i h = absurd (i .value)
 eq-whole (fin u n d) z s m e i h =
     let A = n * up d * down e in
     let B = m * up e * down d in
-    let same : A ≡ B = eqb-true A B (and-left (eqb A B) (Bool·beq u s || eqb A 0) h) in
+    let same : A ≡ B = eqb-true A B (and-true-l (eqb A B) (Bool·beq u s || eqb A 0) h) in
     let n1 : n * up d ≡ i .n * down d = sym (mul-one (n * up d)) ∙ i .value .1 in
     let x : m * up e ≡ i .n * down e =
     eq-of-mul-eq-mul-right (down d) (down-pos d) (m * up e) (i .n * down e) (sym same ∙ ap (λ (x : ℕ). x * down e) n1 ∙ mul-right-comm (i .n) (down d) (down e)) in

@@ -3,7 +3,7 @@ use mathlib.Core.Path.{_≡_, refl, sym, ap, _∙_, subst}
 use Prim.Native.Nat.{ℕ, zero, suc, _+_, _*_, _/_, _%_}
 use native.Mathlib.Nat.{mul-one, div-add-mod', add-zero}
 use mathlib.Core.Bool.{true, false}
-use lib.Dec.{T, leb, eqb, leb→le, eqb→eq, lit≤, leb·suc-zero}
+use lib.Dec.{T, leb, eqb, eqb→eq, lit≤, leb·suc-zero}
 use native.Mathlib.Omega.{arith}
 use borrow.Author.Tests.{lt-ltb}
 use lib.IntN.{ℤ, pos, negsuc, negℤ}
@@ -12,15 +12,16 @@ use lib.Signed.{ltZ}
 use lib.Ieee.{Float, nan, inf, fin, binary32, up, down, sub, mul, lt}
 use lib.Ieee.Fits.{and-l, and-r}
 use Rattle.algebra.specs.Reify.{reify}
-use Rattle.algebra.proofs.Equal.{impossible}
+use Rattle.algebra.proofs.Equal.{impossible, T→true}
 use Rattle.algebra.proofs.Solve.{ring}
 use Rattle.rules.specs.Plane.{Pt, minus, cross, turn}
 use Rattle.rules.proofs.Turns.{coordinates}
+use Rattle.rules.proofs.GridSizes.{GridPoint, coordinate-small}
 use Rattle.grid.specs.declared.point.Point.{Point}
 use Rattle.grid.specs.declared.point_in_triangle.Orientation.the-variants.{Ccw, Cw, None}
 use Rattle.rules.specs.Grid.{wholeOf, onGrid}
 use Rattle.grid.specs.Points.{onGridPt, ptOf, orientation, isCcw, isCw}
-use Rattle.grid.proofs.Value.{Is, Within, natAbs-signed, lt-is, sub-within, mul-within}
+use Rattle.grid.proofs.Value.{Is, Within, lt-is, sub-within, mul-within}
 
 -- a grid value is its whole number
 pub grid-within : (x : Float) → T (onGrid x) → Within 1024 x (wholeOf x)
@@ -32,7 +33,7 @@ grid-within (fin s m e) t =
     let v : m * up e * 1 ≡ q * down e = mul-one (m * up e) ∙ sym (div-add-mod' (m * up e) (down e)) ∙ ap (λ (x : ℕ). q * down e + x) r ∙ add-zero (q * down e) in
     record {
       is = record { s = s; n = q; value = (refl, v); whole = refl };
-      small = rw natAbs-signed (leb→le q 1024 (and-r (eqb (m * up e % down e) 0) (leb q 1024) t));
+      small = coordinate-small (fin s m e) (T→true (onGrid (fin s m e)) t);
     }
 
 -- a point's coordinates
@@ -41,6 +42,9 @@ unfolding onGridPt
 pt-within p h =
     let t : T (onGridPt p) = subst T (sym h) tt in
     (grid-within (p .x) (and-l (onGrid (p .x)) (onGrid (p .y)) t), grid-within (p .y) (and-r (onGrid (p .x)) (onGrid (p .y)) t))
+
+pub grid-point : (p : Point) → onGridPt p ≡ true → GridPoint (ptOf p)
+grid-point p h = let w = pt-within p h in record { x-small = w .0 .small; y-small = w .1 .small }
 
 -- the cross product of the vectors from o to a and from o to b, as the code computes it and in whole numbers
 abbrev pub crossF : Point → Point → Point → Float

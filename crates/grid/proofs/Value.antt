@@ -16,7 +16,9 @@ use lib.Ieee.Exact.{HasValue}
 use lib.Ieee.Back.{round-whole}
 use lib.Ieee.Scale.{round-same}
 use borrow.Author.Tests.{ltb-true, ltb-false, lt-ltb, le-ltb, ne-eqb}
+use Rattle.algebra.proofs.Sizes.{natAbs-sub, natAbs-mul}
 use Rattle.rules.specs.Grid.{signed}
+use Rattle.rules.proofs.GridSizes.{natAbs-signed}
 
 -- ---- the scale D of two fractions with one denominator goes out
 
@@ -112,44 +114,12 @@ lt-at (fin u m e) (fin z n d) s t a b v w =
     rw (v .0, w .0, left-num (m * up e) a (down e) (down d) (v .1), right-num (n * up d) b (down e) (down d) (w .1))
     (below-scale s t a b D (mul-pos (down-pos e) (down-pos d)))
 
--- ---- signs and sizes
+-- ---- signs
 
 pub signed-not : (s : Bool) (n : ℕ) → signed (not s) n ≡ negℤ (signed s n)
 signed-not false n = refl
 signed-not true zero = refl
 signed-not true (suc n) = refl
-
-pub natAbs-signed : (s : Bool) (n : ℕ) → natAbs (signed s n) ≡ n
-natAbs-signed false n = refl
-natAbs-signed true zero = refl
-natAbs-signed true (suc n) = refl
-
-pub natAbs-neg : (z : ℤ) → natAbs (negℤ z) ≡ natAbs z
-natAbs-neg (pos zero) = refl
-natAbs-neg (pos (suc n)) = refl
-natAbs-neg (negsuc n) = refl
-
-pub natAbs-mul : (a b : ℤ) → natAbs (a *ℤ b) ≡ natAbs a * natAbs b
-natAbs-mul (pos a) (pos b) = refl
-natAbs-mul (pos a) (negsuc b) = natAbs-neg (pos (a * suc b))
-natAbs-mul (negsuc a) (pos b) = natAbs-neg (pos (suc a * b))
-natAbs-mul (negsuc a) (negsuc b) = refl
-
-sub-le : (a b : ℕ) → natAbs (cond (ltb a (suc b)) (negsuc (suc b - suc a)) (pos (a - suc b))) ≤ a + suc b
-sub-le a b = go (ltb a (suc b)) refl
-  where
-    go : (t : Bool) → ltb a (suc b) ≡ t → natAbs (cond t (negsuc (suc b - suc a)) (pos (a - suc b))) ≤ a + suc b
-    go true e = let h : a < suc b = ltb-true a (suc b) e in omega arith
-    go false e = omega arith
-
-pub natAbs-add : (a b : ℤ) → natAbs (a +ℤ b) ≤ natAbs a + natAbs b
-natAbs-add (pos a) (pos b) = omega arith
-natAbs-add (pos a) (negsuc b) = sub-le a b
-natAbs-add (negsuc a) (pos b) = let h = sub-le b a in omega arith
-natAbs-add (negsuc a) (negsuc b) = omega arith
-
-pub natAbs-sub : (a b : ℤ) → natAbs (a -ℤ b) ≤ natAbs a + natAbs b
-natAbs-sub a b = rw (natAbs-neg b) at (natAbs-add a (negℤ b))
 
 pub signed-mul : (s t : Bool) (a b : ℕ) → signed (unlike s t) (a * b) ≡ signed s a *ℤ signed t b
 signed-mul false false a b = refl

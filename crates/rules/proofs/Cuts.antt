@@ -82,7 +82,7 @@ unfolding without
 without-place [] p ys h = rw (eqb-same p)
 without-place (x ∷ xs) p ys (n & h) = rw (eqb-other x p n) (ap (λ (l : List ℕ). x ∷ l) (without-place xs p ys h))
 
-each-without : {P : ℕ → Type 0} (i : ℕ) (l : List ℕ) → Each P l → Each P (without i l)
+pub each-without : {P : ℕ → Type 0} (i : ℕ) (l : List ℕ) → Each P l → Each P (without i l)
 unfolding without
 each-without i [] h = end
 each-without {P} i (j ∷ l) (p & h) = go (eqb j i) (each-without i l h)

@@ -5,6 +5,7 @@ pub mod Crossing
 pub mod Root
 pub mod Ear
 pub mod Cut
+pub mod Choosing
 pub mod Merge
 pub mod Layout
 pub mod Refusals

@@ -7,7 +7,8 @@ use borrow.Author.Needs.{needs}
 use Rattle.rules.specs.Plane.{minus}
 use Rattle.rules.specs.Root.{root as rootOf}
 use Rattle.grid.specs.Points.{ptOf}
-use Rattle.root.proofs.Length.{squareOf, square-small, square-back, reciprocal-of}
+use Rattle.rules.proofs.GridSizes.{squareOf}
+use Rattle.root.proofs.Length.{radicand-small, radicand-back, reciprocal-of}
 use Rattle.root.proofs.reciprocal.Statement.{statement}
 use Rattle.root.proofs.reciprocal.Tie as tie
 
@@ -22,7 +23,7 @@ cast : (c : tie.After-dot) → T (inUnsigned binary32 32 (c .dot .result)) × (t
 cast c =
     let s = c .before .before in
     let d = c .before .side-from .ensures in
-    square-back (s .args .q) (s .args .p) (s .pre .0) (s .pre .1) (d .0) (d .1) (c .dot .ensures)
+    radicand-back (s .args .q) (s .args .p) (s .pre .0) (s .pre .1) (d .0) (d .1) (c .dot .ensures)
 
 float-to-int-root : tie.Need-float-to-int-root
 float-to-int-root c = cast (c .before) .0
@@ -30,7 +31,7 @@ float-to-int-root c = cast (c .before) .0
 root-requires : tie.Need-root-requires
 root-requires c κs =
     let s = c .before .before .before in
-    rw (cast (c .before) .1) (square-small (s .args .q) (s .args .p) (s .pre .0) (s .pre .1))
+    rw (cast (c .before) .1) (radicand-small (s .args .q) (s .args .p) (s .pre .0) (s .pre .1))
 
 returns : tie.Need-returns
 unfolding ofBits
