@@ -58,7 +58,10 @@ element-write-triangles-3 : tie.Need-element-write-triangles-3
 element-write-triangles-3 c = search needs
 
 returns : tie.Need-returns
-returns c = let a = c .before .before .before .before .args in is (now (a .triangles)) (a .k) _ (a .i) _ _ _ (c .before .before .wide .ensures) (c .wide2 .ensures)
+returns c =
+    let first = c .before .before in
+    let a = first .before .before .args in
+    is (now (a .triangles)) (a .k) _ (a .i) _ _ _ (first .wide .ensures) (c .wide2 .ensures)
 
 pub put-spec : {M : Type 1} → statement M
 put-spec =
