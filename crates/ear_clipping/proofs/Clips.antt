@@ -9,6 +9,7 @@ use lib.Ieee.{Float}
 use Rattle.algebra.specs.Lists.{countFrom}
 use Rattle.algebra.specs.Rings.{Corner, corners, ringOf}
 use Rattle.algebra.proofs.Counting.{count-length}
+use Rattle.rules.specs.Limits.{mostPoints, mostIndices}
 use Rattle.rules.specs.Plane.{Pt}
 use Rattle.rules.specs.Cut.{Choice, nothing, best, choose, without, Cut, stuck, done, write, lowest, cutRing, cut}
 use Rattle.rules.specs.Layout.{flatten, over}
@@ -53,14 +54,14 @@ module _ (ps : List Pt) (n : ℕ) (s : Vertices) (h : Stands ps n s) where
       rw e at r
 
   pub cut-some :
-      (left i : ℕ) (v : Float) → 3 < left → n ≤ 512 → pickFrom (s .active) (s .ears) (s .pointiness) Nothing 0 n ≡ At i v
+      (left i : ℕ) (v : Float) → 3 < left → n ≤ mostPoints → pickFrom (s .active) (s .ears) (s .pointiness) Nothing 0 n ≡ At i v
       → cutRing (left - 3) ps (ringIn n s) ≡ write (cornerAt s i) (cutRing (left - 1 - 3) ps (ringIn n (clipped ps s i)))
   cut-some left i v l small e =
       let q : left - 3 ≡ suc (left - 1 - 3) = omega arith in
       let r = picked i v e in
       rw (q, cut-ring ps n s h small i (r .0) (r .1)) (turn (left - 1 - 3) (At i v) e)
 
-  pub ring-less : (i : ℕ) (v : Float) → n ≤ 512 → pickFrom (s .active) (s .ears) (s .pointiness) Nothing 0 n ≡ At i v → length (ringIn n s) ≡ suc (length (ringIn n (clipped ps s i)))
+  pub ring-less : (i : ℕ) (v : Float) → n ≤ mostPoints → pickFrom (s .active) (s .ears) (s .pointiness) Nothing 0 n ≡ At i v → length (ringIn n s) ≡ suc (length (ringIn n (clipped ps s i)))
   ring-less i v small e =
       let r = picked i v e in
       rw (cut-ring ps n s h small i (r .0) (r .1)) (without-length i (once (activeOf s) i 0 n (omega arith) (omega (arith, r .0)) (r .1)))
@@ -110,14 +111,14 @@ pub record Inv (ps : List Pt) (n : ℕ) (triangles : List ℕ) (s : Vertices) (l
   pub more : 3 ≤ left
   pub most : left ≤ n
   pub count : k + 3 * left ≡ 3 * n
-  pub size : length triangles ≡ 1530
+  pub size : length triangles ≡ mostIndices
   pub stands : Stands ps n s
   pub ring-size : length (ringIn n s) ≡ left
   pub written : List (Corner ℕ)
   pub store : take k triangles ≡ flatten (map ringOf written)
   pub work : cut ps ≡ writeAll written (cutRing (left - 3) ps (ringIn n s))
 
-pub inv-first : (ps : List Pt) (n : ℕ) (triangles : List ℕ) (s : Vertices) → 3 ≤ n → n ≡ length ps → length triangles ≡ 1530 → Stands ps n s → ringIn n s ≡ countFrom 0 n → Inv ps n triangles s n 0
+pub inv-first : (ps : List Pt) (n : ℕ) (triangles : List ℕ) (s : Vertices) → 3 ≤ n → n ≡ length ps → length triangles ≡ mostIndices → Stands ps n s → ringIn n s ≡ countFrom 0 n → Inv ps n triangles s n 0
 unfolding cut writeAll flatten
 inv-first ps n triangles s big is z h e = record {
   more = big;
@@ -131,11 +132,11 @@ inv-first ps n triangles s big is z h e = record {
   work = rw (← is) (ap (cutRing (n - 3) ps) (sym e));
 }
 
-module _ (ps : List Pt) (n : ℕ) (triangles : List ℕ) (s : Vertices) (left k : ℕ) (h : Inv ps n triangles s left k) (small : n ≤ 512) where
-  put-size : (a b c : ℕ) → length (put3 triangles k a b c) ≡ 1530
+module _ (ps : List Pt) (n : ℕ) (triangles : List ℕ) (s : Vertices) (left k : ℕ) (h : Inv ps n triangles s left k) (small : n ≤ mostPoints) where
+  put-size : (a b c : ℕ) → length (put3 triangles k a b c) ≡ mostIndices
   put-size a b c = simp length-set (h .size)
 
-  pub put-fits : k + 2 < 1530
+  pub put-fits : k + 2 < mostIndices
   put-fits = omega (arith, h .count, h .more, h .most)
 
   put-store : (i : ℕ) → take (k + 3) (put3 triangles k (prevOf s i) i (nextOf s i)) ≡ flatten (map ringOf (h .written ++ cornerAt s i ∷ []))

@@ -1,21 +1,21 @@
 -- Equal points, by the order of their coordinates, and the loop that looks for equal neighbours.
 use Prim.Native.Nat.{ℕ, _+_, _≤_, _<_}
-use mathlib.Core.Path.{_≡_, sym, _∙_, ap}
+use mathlib.Core.Path.{_≡_, refl, sym, _∙_}
 use mathlib.Core.Bool.{Bool, true, false, not, _&&_, _||_, or-comm}
 use mathlib.Core.List.{List, [], _∷_}
 use native.Mathlib.Omega.{arith}
 use lib.ListN.{length}
 use lib.Ieee.{lt}
 use Rattle.algebra.specs.Lists.{any}
-use Rattle.algebra.specs.Rings.{Edge}
+use Rattle.algebra.specs.Rings.{Edge, edges}
 use Rattle.algebra.proofs.Order.{leZ-not-ltZ}
 use Rattle.rules.specs.Plane.{Pt, point, same}
 use Rattle.rules.specs.Refusals.{equalNeighbours}
-use Rattle.rules.proofs.Walks.{edgesFrom, edges-first, edges-more, edges-last}
 use Rattle.grid.specs.declared.point.Point.{Point}
 use Rattle.grid.specs.Points.{onGridPt, ptOf}
 use Rattle.grid.proofs.Value.{lt-is}
 use Rattle.grid.proofs.Turn.{pt-within}
+use Rattle.grid.proofs.Walks.{edge}
 
 -- ---- two points
 
@@ -42,36 +42,23 @@ module _ (a b : Point) (ha : onGridPt a ≡ true) (hb : onGridPt b ≡ true) whe
 
 -- ---- the loop
 
-abbrev equalIn : List (Edge Pt) → Bool
-equalIn es = any (λ e. same (e .from) (e .to)) es
+-- no edge that was passed has equal ends
+unfoldable pub Apart : List Pt → List (Edge Pt) → Type 0
+Apart ps es = equalNeighbours ps ≡ any (λ e. same (e .from) (e .to)) es
 
-pub record Walk (ps : List Pt) (a : Point) (i : ℕ) : Type 0 where
-  pub from : 1 ≤ i
-  pub on : onGridPt a ≡ true
-  pub work : equalNeighbours ps ≡ equalIn (edgesFrom ps (ptOf a) i)
+pub all-edges : (ps : List Pt) → Apart ps (edges ps)
+unfolding equalNeighbours Apart
+all-edges ps = refl
 
-pub walk-first : (ps : List Pt) (f : Point) → onGridPt f ≡ true → ptOf f ≡ point ps 0 → 0 < length ps → Walk ps f 1
-unfolding equalNeighbours
-walk-first ps f g e h = record { from = omega arith; on = g; work = rw e (ap equalIn (edges-first ps h)) }
+module _ (ps : List Pt) (a b : Point) (t : Bool) (is : t ≡ same (ptOf a) (ptOf b)) where
+  pub edge-equal : t ≡ true → (es : List (Edge Pt)) → Apart ps (edge a b ∷ es) → true ≡ equalNeighbours ps
+  unfolding Apart
+  edge-equal e es k = sym (k ∙ rw (sym is ∙ e))
 
-module _ {ps : List Pt} {a : Point} {i : ℕ} (w : Walk ps a i) where
-  module _ (h : i < length ps) (b : Point) (e : ptOf b ≡ point ps i) (t : Bool) (is : t ≡ same (ptOf a) (ptOf b)) where
-    next : equalNeighbours ps ≡ (t || equalIn (edgesFrom ps (ptOf b) (i + 1)))
-    next =
-        w .work
-        ∙ ap equalIn (edges-more ps (ptOf a) i h ∙ ap (λ q. record { from = ptOf a; to = q } ∷ edgesFrom ps q (i + 1)) (sym e))
-        ∙ ap (λ (x : Bool). x || equalIn (edgesFrom ps (ptOf b) (i + 1))) (sym is)
+  pub edge-more : t ≡ false → (es : List (Edge Pt)) → Apart ps (edge a b ∷ es) → Apart ps es
+  unfolding Apart
+  edge-more e es k = k ∙ rw (sym is ∙ e)
 
-    pub walk-found : t ≡ true → true ≡ equalNeighbours ps
-    walk-found f = sym (next ∙ ap (λ (x : Bool). x || equalIn (edgesFrom ps (ptOf b) (i + 1))) f)
-
-    pub walk-more : onGridPt b ≡ true → t ≡ false → Walk ps b (i + 1)
-    walk-more g f = record { from = omega (arith, w .from); on = g; work = next ∙ ap (λ (x : Bool). x || equalIn (edgesFrom ps (ptOf b) (i + 1))) f }
-
-  pub walk-last : length ps ≤ i → (f : Point) → ptOf f ≡ point ps 0 → (t : Bool) → t ≡ same (ptOf a) (ptOf f) → t ≡ equalNeighbours ps
-  walk-last h f e t is =
-      sym
-      (w .work
-      ∙ ap equalIn (edges-last ps (ptOf a) i h ∙ ap (λ q. record { from = ptOf a; to = q } ∷ []) (sym e))
-      ∙ ap (λ (x : Bool). x || false) (sym is)
-      ∙ or-comm t false)
+  pub edge-last : Apart ps (edge a b ∷ []) → t ≡ equalNeighbours ps
+  unfolding Apart
+  edge-last k = is ∙ sym (k ∙ or-comm (same (ptOf a) (ptOf b)) false)

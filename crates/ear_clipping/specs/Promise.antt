@@ -8,7 +8,7 @@ use Rattle.rules.specs.Plane.{Pt}
 use Rattle.rules.specs.Cut.{cut}
 use Rattle.rules.specs.Layout.{flatten, over}
 use Rattle.rules.specs.Entries.{trianglesFor, cutter}
-use Rattle.ear_clipping.specs.declared.Answer.{Answer}
+use Rattle.entries.specs.declared.Answer.{Answer}
 
 -- of the coordinates, and the lent indices before and after
 pub record Promise (coords : List Float) (before : List ℕ) (r : Answer) (after : List ℕ) : Type 0 where

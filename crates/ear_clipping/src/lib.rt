@@ -1,4 +1,10 @@
 // The cutter: after the crate's src/transformation/ear_clipping.rs.
+use entries::Answer;
+use entries::MOST_INDICES;
+use entries::MOST_POINTS;
+use entries::wide_half;
+use entries::zeros;
+use grid::outline::outline_refusal;
 use grid::point::Point;
 use vertices::Pick;
 use vertices::clip;
@@ -10,18 +16,13 @@ ghost use mathlib.Core.Bool.{true, false};
 ghost use Prim.Native.Nat.{_+_, _-_, _*_, _≤_, _<_};
 ghost use lib.ListN.{length};
 ghost use Rattle.rules.specs.Grid.{pointsOf};
+ghost use Rattle.rules.specs.Limits.{mostPoints, mostIndices};
 ghost use Rattle.rules.specs.Plane.{same as sameOf};
 ghost use Rattle.rules.specs.Refusals.{offGrid, equalNeighbours, firstRefusal, beforeCutting};
 ghost use Rattle.grid.specs.Points.{onGridPt, ptOf};
 ghost use Rattle.vertices.specs.Vertices.{place};
 ghost use Rattle.ear_clipping.specs.Store.{put3};
 ghost use Rattle.ear_clipping.specs.Promise.{Written, Promise};
-
-// Document 01's number, and how many triangles were written.
-pub struct Answer {
-    pub number: u32,
-    pub count: u32,
-}
 
 fn same(a: Point, b: Point) -> bool
     requires { ⌜ onGridPt a ≡ true ⌝ }
@@ -68,72 +69,58 @@ fn equal_neighbours(coords: &[f32]) -> bool
 fn refusal(coords: &[f32], room: usize) -> u32
     ensures { λ r. ⌜ r ≡ firstRefusal (beforeCutting (now (coords .entry)) room) ⌝ }
 {
-    if coords.len() % 2 == 1 {
-        return 1;
-    }
-    let n = coords.len() / 2;
-    if n < 3 {
-        return 2;
-    }
-    if 512 < n {
-        return 3;
-    }
-    if grid::off_grid(coords) {
-        return 4;
+    let number = outline_refusal(3, MOST_POINTS, coords);
+    if number != 0 {
+        return number;
     }
     if equal_neighbours(coords) {
         return 5;
     }
+    let n = coords.len() / 2;
     if room < 3 * (n - 2) {
         return 6;
     }
     0
 }
 
-fn zeros() -> [u32; 1530]
-    ensures { λ r. ⌜ length r ≡ 1530 ⌝ }
+fn links() -> [u16; MOST_POINTS]
+    ensures { λ r. ⌜ length r ≡ mostPoints ⌝ }
 {
-    [0u32; 1530]
+    [0u16; MOST_POINTS]
 }
 
-fn links() -> [u16; 512]
-    ensures { λ r. ⌜ length r ≡ 512 ⌝ }
+fn flags() -> [bool; MOST_POINTS]
+    ensures { λ r. ⌜ length r ≡ mostPoints ⌝ }
 {
-    [0u16; 512]
+    [false; MOST_POINTS]
 }
 
-fn flags() -> [bool; 512]
-    ensures { λ r. ⌜ length r ≡ 512 ⌝ }
+fn values() -> [f32; MOST_POINTS]
+    ensures { λ r. ⌜ length r ≡ mostPoints ⌝ }
 {
-    [false; 512]
-}
-
-fn values() -> [f32; 512]
-    ensures { λ r. ⌜ length r ≡ 512 ⌝ }
-{
-    [0.0f32; 512]
-}
-
-fn wide(x: u16) -> u32
-    ensures { λ r. ⌜ r ≡ x ⌝ }
-{
-    x as u32
+    [0.0f32; MOST_POINTS]
 }
 
 // Writes corner i, between its neighbours, at place k.
-fn put(triangles: &mut [u32; 1530], k: usize, i: usize, prev: &[u16; 512], next: &[u16; 512])
-    requires { ⌜ (k + 2 < 1530) × (i < 512) ⌝ }
+fn put(
+    triangles: &mut [u32; MOST_INDICES],
+    k: usize,
+    i: usize,
+    prev: &[u16; MOST_POINTS],
+    next: &[u16; MOST_POINTS],
+)
+    requires { ⌜ (k + 2 < mostIndices) × (i < mostPoints) ⌝ }
     ensures { λ r. ⌜ now (triangles .exit) ≡ put3 (now (triangles .entry)) k (place (now (prev .entry)) i) i (place (now (next .entry)) i) ⌝ }
 {
-    triangles[k] = wide(prev[i]);
+    triangles[k] = wide_half(prev[i]);
     triangles[k + 1] = i as u32;
-    triangles[k + 2] = wide(next[i]);
+    triangles[k + 2] = wide_half(next[i]);
 }
 
 // Cuts an outline of n corners. Answers the number of triangles, or 0 where a ring has no ear; then nothing is written.
 fn cut(coords: &[f32], n: usize, indices: &mut [u32]) -> u32
     requires { ⌜ offGrid (now coords) ≡ false ⌝ }
-    requires { ⌜ (3 ≤ n) × (n ≤ 512) × (n ≡ length (pointsOf (now coords))) ⌝ }
+    requires { ⌜ (3 ≤ n) × (n ≤ mostPoints) × (n ≡ length (pointsOf (now coords))) ⌝ }
     requires { ⌜ 3 * (n - 2) ≤ length (now indices) ⌝ }
     ensures { λ r. ⌜ Written (pointsOf (now (coords .entry))) (now (indices .entry)) r (now (indices .exit)) ⌝ }
 {

@@ -51,7 +51,7 @@ pub fn either(s: bool, t: bool) -> bool
 }
 
 // A byte as a word.
-pub fn byte_word(x: u8) -> u32
+pub fn wide_byte(x: u8) -> u32
     ensures { λ r. ⌜ r ≡ x ⌝ }
     ensures { λ r. ⌜ r < 256 ⌝ }
 {
@@ -59,7 +59,7 @@ pub fn byte_word(x: u8) -> u32
 }
 
 // Half a word as a word.
-pub fn half_word(x: u16) -> u32
+pub fn wide_half(x: u16) -> u32
     ensures { λ r. ⌜ r ≡ x ⌝ }
 {
     x as u32

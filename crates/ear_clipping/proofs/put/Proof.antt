@@ -12,14 +12,14 @@ use Rattle.ear_clipping.proofs.put.Tie as tie
 is : (l : List ℕ) (k a b c a' c' : ℕ) → a ≡ a' → c ≡ c' → set (set (set l k a) (k + 1) b) (k + 2) c ≡ put3 l k a' b c'
 is l k a b c a' c' e f = rw (e, f)
 
-mul-wide : tie.Need-mul-wide
-mul-wide c = search needs
+mul-wide-half : tie.Need-mul-wide-half
+mul-wide-half c = search needs
 
-element-copy-out-wide : tie.Need-element-copy-out-wide
-element-copy-out-wide c = search needs
+element-copy-out-wide-half : tie.Need-element-copy-out-wide-half
+element-copy-out-wide-half c = search needs
 
-wide-requires : tie.Need-wide-requires
-wide-requires c κs = search needs
+wide-half-requires : tie.Need-wide-half-requires
+wide-half-requires c κs = search needs
 
 mul-triangles : tie.Need-mul-triangles
 mul-triangles c = search needs
@@ -39,14 +39,14 @@ mul-triangles-2 c = search needs
 element-write-triangles-2 : tie.Need-element-write-triangles-2
 element-write-triangles-2 c = search needs
 
-mul-wide-2 : tie.Need-mul-wide-2
-mul-wide-2 c = search needs
+mul-wide-half-2 : tie.Need-mul-wide-half-2
+mul-wide-half-2 c = search needs
 
-element-copy-out-wide-2 : tie.Need-element-copy-out-wide-2
-element-copy-out-wide-2 c = search needs
+element-copy-out-wide-half-2 : tie.Need-element-copy-out-wide-half-2
+element-copy-out-wide-half-2 c = search needs
 
-wide-requires-2 : tie.Need-wide-requires-2
-wide-requires-2 c κs = search needs
+wide-half-requires-2 : tie.Need-wide-half-requires-2
+wide-half-requires-2 c κs = search needs
 
 add-triangles-2 : tie.Need-add-triangles-2
 add-triangles-2 c = search needs
@@ -58,24 +58,27 @@ element-write-triangles-3 : tie.Need-element-write-triangles-3
 element-write-triangles-3 c = search needs
 
 returns : tie.Need-returns
-returns c = let a = c .before .before .before .before .args in is (now (a .triangles)) (a .k) _ (a .i) _ _ _ (c .before .before .wide .ensures) (c .wide2 .ensures)
+returns c =
+    let first = c .before .before in
+    let a = first .before .before .args in
+    is (now (a .triangles)) (a .k) _ (a .i) _ _ _ (first .wide-half .ensures) (c .wide-half2 .ensures)
 
 pub put-spec : {M : Type 1} → statement M
 put-spec =
     tie.close
     (tie.spec
-    mul-wide
-    element-copy-out-wide
-    wide-requires
+    mul-wide-half
+    element-copy-out-wide-half
+    wide-half-requires
     mul-triangles
     element-write-triangles
     cast-triangles
     add-triangles
     mul-triangles-2
     element-write-triangles-2
-    mul-wide-2
-    element-copy-out-wide-2
-    wide-requires-2
+    mul-wide-half-2
+    element-copy-out-wide-half-2
+    wide-half-requires-2
     add-triangles-2
     mul-triangles-3
     element-write-triangles-3

@@ -1,5 +1,5 @@
 -- `write_pieces` meets its contract. The loop's invariant: the pieces passed are written, and the next begins behind them.
-use Prim.Native.Nat.{ℕ, _+_, _-_, _≤_}
+use Prim.Native.Nat.{ℕ, _+_, _-_, _≤_, _<_}
 use native.Mathlib.Omega.{arith}
 use borrow.Author.Needs.{needs}
 use mathlib.Core.Path.{_≡_}
@@ -16,32 +16,54 @@ Inv-loop store lens count out₀ sizes₀ at₀ k₀ out sizes at k = Wrote stor
 abbrev μ-loop : tie.MeasureT-loop
 μ-loop store lens count out₀ sizes₀ at₀ k₀ out sizes at k = count - k
 
+-- the places of the code, each from a later one
+abbrev read-known : tie.After-slice-known2 Inv-loop μ-loop → tie.After-shared-slice-known2 Inv-loop μ-loop
+read-known c = c .before .before
+
+abbrev start : tie.After-slice-known2 Inv-loop μ-loop → tie.Start Inv-loop μ-loop
+start c = read-known c .before .before
+
+abbrev entry : tie.At-loop Inv-loop μ-loop → tie.Start Inv-loop μ-loop
+entry c = start (c .before)
+
+abbrev loop : tie.After-wide Inv-loop μ-loop → tie.At-loop Inv-loop μ-loop
+loop c = c .before .before .before
+
+abbrev ring-written : tie.After-slice-known3 Inv-loop μ-loop → tie.After-write-ring Inv-loop μ-loop
+ring-written c = c .before .before
+
+abbrev sized : tie.After-slice-known3 Inv-loop μ-loop → tie.After-wide Inv-loop μ-loop
+sized c = ring-written c .before .before
+
 -- of the piece that is to be written
 record Turn (store lens out₀ sizes₀ out sizes : List ℕ) (at k n : ℕ) : Type 0 where
   is : n ≡ getD lens k 0
   in-store' : at + n ≤ length store
   in-out' : at + n ≤ length out
+  in-sizes : k < length sizes
   out-size : length out ≡ length out₀
   sizes-size : length sizes ≡ length sizes₀
 
 turn :
     (c : tie.After-wide Inv-loop μ-loop)
-    → Turn (now (c .before .before .before .before .before .before .before .before .args .store)) (now (c .before .before .before .before .before .before .before .before .args .lens)) (now (c .before .before .before .before .before .before .before .before .args .out)) (now (c .before .before .before .before .before .before .before .before .args .sizes)) (c .before .before .before .loop .out) (c .before .before .before .loop .sizes) (c .before .before .before .loop .at) (c .before .before .before .loop .k) (c .wide .result)
+    → Turn (now (entry (loop c) .args .store)) (now (entry (loop c) .args .lens)) (now (entry (loop c) .args .out)) (now (entry (loop c) .args .sizes)) (loop c .loop .out) (loop c .loop .sizes) (loop c .loop .at) (loop c .loop .k) (c .wide .result)
 turn c =
-    let s = c .before .before .before .before .before .before .before .before in
-    let l = c .before .before .before .loop in
+    let s = entry (loop c) in
+    let w = loop c .loop .inv in
     let e = c .wide .ensures in
     let h = c .before .before .loop-test .taken in
+    let sizes-size = sizes-length _ _ _ _ _ (s .pre .0) (s .pre .1) _ _ _ _ w in
     record {
       is = e;
-      in-store' = in-store _ _ _ _ _ (s .pre .0) (s .pre .1) _ _ _ _ (l .inv) _ e h;
-      in-out' = in-out _ _ _ _ _ (s .pre .0) (s .pre .1) _ _ _ _ (l .inv) _ e h;
-      out-size = out-length _ _ _ _ _ (s .pre .0) (s .pre .1) _ _ _ _ (l .inv);
-      sizes-size = sizes-length _ _ _ _ _ (s .pre .0) (s .pre .1) _ _ _ _ (l .inv);
+      in-store' = in-store _ _ _ _ _ (s .pre .0) (s .pre .1) _ _ _ _ w _ e h;
+      in-out' = in-out _ _ _ _ _ (s .pre .0) (s .pre .1) _ _ _ _ w _ e h;
+      in-sizes = omega (arith, h, s .pre .0 .1, sizes-size);
+      out-size = out-length _ _ _ _ _ (s .pre .0) (s .pre .1) _ _ _ _ w;
+      sizes-size = sizes-size;
     }
 
 loop-holds : tie.Need-loop-holds Inv-loop μ-loop
-loop-holds c = let s = c .before .before .before .before in wrote-first _ _ _ _ _ (s .pre .0) (s .pre .1)
+loop-holds c = wrote-first _ _ _ _ _ (start c .pre .0) (start c .pre .1)
 
 mul-size : tie.Need-mul-size Inv-loop μ-loop
 mul-size c = omega arith
@@ -53,7 +75,7 @@ wide-requires : tie.Need-wide-requires Inv-loop μ-loop
 wide-requires c κs = search needs
 
 mul-write-ring : tie.Need-mul-write-ring Inv-loop μ-loop
-mul-write-ring c = let t = turn c in omega (arith, t .in-out', t .out-size, c .before .before .before .before .before .before .before .before .good)
+mul-write-ring c = let t = turn c in omega (arith, t .in-out', t .out-size, entry (loop c) .good)
 
 sub-write-ring : tie.Need-sub-write-ring Inv-loop μ-loop
 sub-write-ring c = omega (arith, turn c .in-out')
@@ -70,13 +92,13 @@ write-ring-requires c κs =
     (record { place = omega arith; fits = t .in-store' }, (omega arith, simp (length-take, length-drop) (omega (arith, t .in-out'))))
 
 mul-sizes : tie.Need-mul-sizes Inv-loop μ-loop
-mul-sizes c = let w = c .before .before .before .before in omega (arith, w .before .before .loop-test .taken, w .before .before .before .before .before .before .before .before .pre .0 .1, w .before .before .before .before .before .before .before .before .good)
+mul-sizes c = let t = turn (sized c) in omega (arith, t .in-sizes, t .sizes-size, entry (loop (sized c)) .good)
 
 slice-write-sizes : tie.Need-slice-write-sizes Inv-loop μ-loop
-slice-write-sizes c = let w = c .before .before .before .before in omega (arith, w .before .before .loop-test .taken, w .before .before .before .before .before .before .before .before .pre .0 .1, turn w .sizes-size)
+slice-write-sizes c = omega (arith, turn (sized c) .in-sizes)
 
 add-at : tie.Need-add-at Inv-loop μ-loop
-add-at c = let w = c .before .before .before .before in omega (arith, turn w .in-store', w .before .before .before .before .before .before .before .before .good)
+add-at c = omega (arith, turn (sized c) .in-store', entry (loop (sized c)) .good)
 
 add-k : tie.Need-add-k Inv-loop μ-loop
 add-k c = omega arith
@@ -86,18 +108,19 @@ loop-less c = omega arith
 
 loop-again : tie.Need-loop-again Inv-loop μ-loop
 loop-again c =
-    let w = c .before .before .before .before in
-    let s = w .before .before .before .before .before .before .before .before in
-    wrote-more _ _ _ _ _ (s .pre .0) (s .pre .1) _ _ _ _ (w .before .before .before .loop .inv) _ (turn w .is) (w .before .before .loop-test .taken) _ (c .before .before .write-ring .ensures)
+    let w = sized c in
+    let l = loop w in
+    let s = entry l in
+    wrote-more _ _ _ _ _ (s .pre .0) (s .pre .1) _ _ _ _ (l .loop .inv) _ (turn w .is) (w .before .before .loop-test .taken) _ (ring-written c .write-ring .ensures)
 
 same-length : tie.Need-same-length Inv-loop μ-loop
-same-length c = let s = c .before .before .before .before .before .before in out-length _ _ _ _ _ (s .pre .0) (s .pre .1) _ _ _ _ (c .before .loop .inv)
+same-length c = let s = entry (c .before) in out-length _ _ _ _ _ (s .pre .0) (s .pre .1) _ _ _ _ (c .before .loop .inv)
 
 same-length-2 : tie.Need-same-length-2 Inv-loop μ-loop
-same-length-2 c = let s = c .before .before .before .before .before .before in sizes-length _ _ _ _ _ (s .pre .0) (s .pre .1) _ _ _ _ (c .before .loop .inv)
+same-length-2 c = let s = entry (c .before) in sizes-length _ _ _ _ _ (s .pre .0) (s .pre .1) _ _ _ _ (c .before .loop .inv)
 
 returns : tie.Need-returns Inv-loop μ-loop
-returns c = let s = c .before .before .before .before .before .before in wrote-end _ _ _ _ _ (s .pre .0) (s .pre .1) _ _ _ _ (c .before .loop .inv) (c .loop-test .left)
+returns c = let s = entry (c .before) in wrote-end _ _ _ _ _ (s .pre .0) (s .pre .1) _ _ _ _ (c .before .loop .inv) (c .loop-test .left)
 
 pub write-pieces-spec : {M : Type 1} → statement M
 write-pieces-spec =

@@ -42,8 +42,17 @@ module _ (p a b : Point) (e : Ends p a b) where
   up : lt (p .y) (a .y) ≡ false → lt (p .y) (b .y) ≡ true → {d : Orientation} → d ≡ orientation (turn (ptOf a) (ptOf b) (ptOf p)) → isCcw d ≡ crossed (ptOf p) (ptOf a) (ptOf b)
   up h k i = perp-below (ptOf p) (ptOf a) (ptOf b) i ∙ rising (ptOf p) (ptOf a) (ptOf b) (higher p a (e .p-on) (e .a-on) h) (higher p b (e .p-on) (e .b-on) k)
 
+-- the entry of the function, from where a is above p and from where it is not
+abbrev start-above : tie.Then1 → tie.Start
+start-above c = c .before .before .before
+
+abbrev start-below : tie.Else1 → tie.Start
+start-below c = c .before .before .before
+
 returns : tie.Need-returns
-returns c = under _ _ _ (ends (c .before .before .before .before .before .before)) (c .before .before .before .if1 .taken) (c .if2 .taken)
+returns c =
+    let a = c .before .before .before in
+    under _ _ _ (ends (start-above a)) (a .if1 .taken) (c .if2 .taken)
 
 corner-direction-requires : tie.Need-corner-direction-requires
 corner-direction-requires c κs = search needs
@@ -52,7 +61,10 @@ is-cw-requires : tie.Need-is-cw-requires
 is-cw-requires c κs = search needs
 
 returns-2 : tie.Need-returns-2
-returns-2 c = c .is-cw .ensures ∙ down _ _ _ (ends (c .before .before .before .before .before .before .before .before)) (c .before .before .before .before .before .if1 .taken) (c .before .before .if2 .left) (c .before .corner-direction .ensures)
+returns-2 c =
+    let b = c .before .before in
+    let a = b .before .before .before in
+    c .is-cw .ensures ∙ down _ _ _ (ends (start-above a)) (a .if1 .taken) (b .if2 .left) (c .before .corner-direction .ensures)
 
 corner-direction-requires-2 : tie.Need-corner-direction-requires-2
 corner-direction-requires-2 c κs = search needs
@@ -61,10 +73,15 @@ is-ccw-requires : tie.Need-is-ccw-requires
 is-ccw-requires c κs = search needs
 
 returns-3 : tie.Need-returns-3
-returns-3 c = c .is-ccw .ensures ∙ up _ _ _ (ends (c .before .before .before .before .before .before .before .before)) (c .before .before .before .before .before .if1 .left) (c .before .before .if3 .taken) (c .before .corner-direction2 .ensures)
+returns-3 c =
+    let b = c .before .before in
+    let a = b .before .before .before in
+    c .is-ccw .ensures ∙ up _ _ _ (ends (start-below a)) (a .if1 .left) (b .if3 .taken) (c .before .corner-direction2 .ensures)
 
 returns-4 : tie.Need-returns-4
-returns-4 c = over _ _ _ (ends (c .before .before .before .before .before .before)) (c .before .before .before .if1 .left) (c .if3 .left)
+returns-4 c =
+    let a = c .before .before .before in
+    over _ _ _ (ends (start-below a)) (a .if1 .left) (c .if3 .left)
 
 pub crosses-spec : {M : Type 1} → statement M
 crosses-spec =

@@ -18,10 +18,14 @@ side-from-requires c κs = search needs
 dot-requires : tie.Need-dot-requires
 dot-requires c κs = search needs
 
+-- the entry of the function, from where the square is computed
+abbrev start : tie.After-dot → tie.Start
+start c = c .before .before
+
 -- the square of the length, cast to a whole number
-cast : (c : tie.After-dot) → T (inUnsigned binary32 32 (c .dot .result)) × (toUnsigned 32 (c .dot .result) ≡ natAbs (squareOf (minus (ptOf (c .before .before .args .q)) (ptOf (c .before .before .args .p)))))
+cast : (c : tie.After-dot) → T (inUnsigned binary32 32 (c .dot .result)) × (toUnsigned 32 (c .dot .result) ≡ natAbs (squareOf (minus (ptOf (start c .args .q)) (ptOf (start c .args .p)))))
 cast c =
-    let s = c .before .before in
+    let s = start c in
     let d = c .before .side-from .ensures in
     radicand-back (s .args .q) (s .args .p) (s .pre .0) (s .pre .1) (d .0) (d .1) (c .dot .ensures)
 
@@ -30,13 +34,13 @@ float-to-int-root c = cast (c .before) .0
 
 root-requires : tie.Need-root-requires
 root-requires c κs =
-    let s = c .before .before .before in
+    let s = start (c .before) in
     rw (cast (c .before) .1) (radicand-small (s .args .q) (s .args .p) (s .pre .0) (s .pre .1))
 
 returns : tie.Need-returns
 unfolding ofBits
 returns c =
-    let s = c .before .before .before .before in
+    let s = start (c .before .before) in
     reciprocal-of (minus (ptOf (s .args .q)) (ptOf (s .args .p))) (c .root .ensures ∙ ap rootOf (cast (c .before .before) .1))
 
 pub reciprocal-spec : {M : Type 1} → statement M

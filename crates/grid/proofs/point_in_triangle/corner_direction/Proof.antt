@@ -9,13 +9,17 @@ use Rattle.grid.proofs.Turn.{cross-within, crossF, is-left, is-right, i
 use Rattle.grid.proofs.point_in_triangle.corner_direction.Statement.{statement}
 use Rattle.grid.proofs.point_in_triangle.corner_direction.Tie as tie
 
+-- the entry of the function, from where the two vectors are known
+abbrev start : tie.After-minus2 → tie.Start
+start c = c .before .before
+
 -- what `cross` holds, from what the three calls ensure
-computed : (c : tie.After-perp-dot) → Is (c .perp-dot .result) (cross (minus (ptOf (c .before .before .before .args .p1)) (ptOf (c .before .before .before .args .p2))) (minus (ptOf (c .before .before .before .args .p3)) (ptOf (c .before .before .before .args .p2))))
+computed : (c : tie.After-perp-dot) → Is (c .perp-dot .result) (cross (minus (ptOf (start (c .before) .args .p1)) (ptOf (start (c .before) .args .p2))) (minus (ptOf (start (c .before) .args .p3)) (ptOf (start (c .before) .args .p2))))
 computed c =
-    let a = c .before .before .before .args in
+    let s = start (c .before) in
+    let a = s .args in
     let is : c .perp-dot .result ≡ crossF (a .p1) (a .p2) (a .p3) = cc in
-    let p = c .before .before .before .pre in
-    rw is (cross-within (a .p1) (a .p2) (a .p3) (p .0) (p .1 .0) (p .1 .1) .is)
+    rw is (cross-within (a .p1) (a .p2) (a .p3) (s .pre .0) (s .pre .1 .0) (s .pre .1 .1) .is)
 
 minus-requires : tie.Need-minus-requires
 minus-requires c κs = search needs
@@ -28,15 +32,24 @@ perp-dot-requires c κs = search needs
 
 returns : tie.Need-returns
 unfolding ofBits
-returns c = let a = c .before .before .before .before .args in is-left _ (ptOf (a .p1)) (ptOf (a .p2)) (ptOf (a .p3)) (computed (c .before)) (c .if1 .taken)
+returns c =
+    let product = c .before in
+    let a = start (product .before) .args in
+    is-left _ (ptOf (a .p1)) (ptOf (a .p2)) (ptOf (a .p3)) (computed product) (c .if1 .taken)
 
 returns-2 : tie.Need-returns-2
 unfolding ofBits
-returns-2 c = let a = c .before .before .before .before .before .args in is-right _ (ptOf (a .p1)) (ptOf (a .p2)) (ptOf (a .p3)) (computed (c .before .before)) (c .if2 .taken)
+returns-2 c =
+    let product = c .before .before in
+    let a = start (product .before) .args in
+    is-right _ (ptOf (a .p1)) (ptOf (a .p2)) (ptOf (a .p3)) (computed product) (c .if2 .taken)
 
 returns-3 : tie.Need-returns-3
 unfolding ofBits
-returns-3 c = let a = c .before .before .before .before .before .args in is-straight _ (ptOf (a .p1)) (ptOf (a .p2)) (ptOf (a .p3)) (computed (c .before .before)) (c .before .if1 .left) (c .if2 .left)
+returns-3 c =
+    let product = c .before .before in
+    let a = start (product .before) .args in
+    is-straight _ (ptOf (a .p1)) (ptOf (a .p2)) (ptOf (a .p3)) (computed product) (c .before .if1 .left) (c .if2 .left)
 
 pub corner-direction-spec : {M : Type 1} → statement M
 corner-direction-spec =

@@ -9,11 +9,17 @@ use Rattle.grid.proofs.point_in_triangle.is_point_in_triangle.Statement
 use Rattle.grid.proofs.point_in_triangle.is_point_in_triangle.Tie as tie
 
 -- the places of the code on the way to the second flag
+abbrev first-ccw : tie.After-any-of2 → tie.After-is-ccw
+first-ccw c = c .before .before .before
+
 abbrev first-flag : tie.After-any-of2 → tie.After-any-of
-first-flag c = c .before .before .before .before
+first-flag c = first-ccw c .before
+
+abbrev first-cw : tie.After-any-of2 → tie.After-is-cw
+first-cw c = first-flag c .before .before .before
 
 abbrev directions : tie.After-any-of2 → tie.After-corner-direction3
-directions c = first-flag c .before .before .before .before
+directions c = first-cw c .before
 
 abbrev start : tie.After-any-of2 → tie.Start
 start c = directions c .before .before .before
@@ -25,8 +31,8 @@ found c =
     (directions c .before .corner-direction2 .ensures)
     (directions c .corner-direction3 .ensures)
     _ _
-    (first-flag c .any-of .ensures ∙ flags (first-flag c .before .before .before .is-cw .ensures) (first-flag c .before .before .is-cw2 .ensures) (first-flag c .before .is-cw3 .ensures))
-    (c .any-of2 .ensures ∙ flags (c .before .before .before .is-ccw .ensures) (c .before .before .is-ccw2 .ensures) (c .before .is-ccw3 .ensures))
+    (first-flag c .any-of .ensures ∙ flags (first-cw c .is-cw .ensures) (first-flag c .before .before .is-cw2 .ensures) (first-flag c .before .is-cw3 .ensures))
+    (c .any-of2 .ensures ∙ flags (first-ccw c .is-ccw .ensures) (c .before .before .is-ccw2 .ensures) (c .before .is-ccw3 .ensures))
   where
     flags : {a b d a' b' d' : Bool} → a ≡ a' → b ≡ b' → d ≡ d' → (a || b || d) ≡ (a' || b' || d')
     flags e f g = cc
