@@ -1,15 +1,12 @@
 -- Equal points, by the order of their coordinates, and the loop that looks for equal neighbours.
-use Prim.Native.Nat.{ℕ, _+_, _≤_, _<_}
 use mathlib.Core.Path.{_≡_, refl, sym, _∙_}
-use mathlib.Core.Bool.{Bool, true, false, not, _&&_, _||_, or-comm}
+use mathlib.Core.Bool.{Bool, true, false, not, _&&_, or-comm}
 use mathlib.Core.List.{List, [], _∷_}
-use native.Mathlib.Omega.{arith}
-use lib.ListN.{length}
 use lib.Ieee.{lt}
 use Rattle.algebra.specs.Lists.{any}
 use Rattle.algebra.specs.Rings.{Edge, edges}
 use Rattle.algebra.proofs.Order.{leZ-not-ltZ}
-use Rattle.rules.specs.Plane.{Pt, point, same}
+use Rattle.rules.specs.Plane.{Pt, same}
 use Rattle.rules.specs.Refusals.{equalNeighbours}
 use Rattle.grid.specs.declared.point.Point.{Point}
 use Rattle.grid.specs.Points.{onGridPt, ptOf}

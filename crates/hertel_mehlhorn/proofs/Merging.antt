@@ -5,9 +5,10 @@ use mathlib.Core.Path.{_≡_, refl, ap, sym, subst, _∙_}
 use mathlib.Core.List.{List, [], _∷_, _++_, append-assoc, append-nil}
 use lib.ListN.{length, getD, take, drop, replicate, length-append, length-drop, length-replicate}
 use lib.Seq.{slice, length-slice, length-take-le}
+use Rattle.rules.specs.Limits.{mostTriangles, mostIndices}
 use Rattle.rules.specs.Plane.{Pt}
 use mathlib.Core.Option.{none}
-use Rattle.rules.specs.Merge.{lastFirst, nextJoin, merge}
+use Rattle.rules.specs.Merge.{lastFirst, mayJoin, nextJoin, merge}
 use Rattle.rules.specs.Layout.{split, flatten, triples}
 use Rattle.hertel_mehlhorn.specs.Promise.{Written}
 use Rattle.pieces.specs.Pieces.{Known, begun, ring, sum, pieces, Long}
@@ -34,22 +35,22 @@ pub record Work (ps : List Pt) (tris : List (List ℕ)) (corners many : ℕ) (st
   pub few : count ≤ many
   pub small : total ≤ corners
   pub below : Each (λ i. i ≤ length ps - 1) store
-  pub work : merge ps tris ≡ split (take a lens) store ++ merge ps (pieces store lens a count at)
+  pub work : merge (mayJoin ps) tris ≡ split (take a lens) store ++ merge (mayJoin ps) (pieces store lens a count at)
 
 module _ (ps : List Pt) (tris : List (List ℕ)) (corners many : ℕ) (store lens : List ℕ) (count total a at : ℕ) (w : Work ps tris corners many store lens count total a at) where
-  head : a < count → merge ps (pieces store lens a count at) ≡ merge ps (ring store at (getD lens a 0) ∷ pieces store lens (a + 1) count (at + getD lens a 0))
-  head h = ap (merge ps) (pieces-cons store lens a count at h (w .stands .lies .counted))
+  head : a < count → merge (mayJoin ps) (pieces store lens a count at) ≡ merge (mayJoin ps) (ring store at (getD lens a 0) ∷ pieces store lens (a + 1) count (at + getD lens a 0))
+  head h = ap (merge (mayJoin ps)) (pieces-cons store lens a count at h (w .stands .lies .counted))
 
   pub work-next :
       (n : ℕ) → n ≡ getD lens a 0 → a < count
-      → (r : Join) → Joins store lens count a at (getD lens a 0) (nextJoin ps (ring store at (getD lens a 0)) (pieces store lens (a + 1) count (at + getD lens a 0))) r → r ≡ Nowhere
+      → (r : Join) → Joins store lens count a at (getD lens a 0) (nextJoin (mayJoin ps) (ring store at (getD lens a 0)) (pieces store lens (a + 1) count (at + getD lens a 0))) r → r ≡ Nowhere
       → Work ps tris corners many store lens count total (a + 1) (at + n)
   unfolding Joins sum
   work-next n is h r j e =
       let s = w .stands in
       let f = here store lens count a at n is (s .lies) h in
       let c : a < length lens = omega (arith, s .lies .counted) in
-      let none-here : nextJoin ps (ring store at (getD lens a 0)) (pieces store lens (a + 1) count (at + getD lens a 0)) ≡ none = rw e at j in
+      let none-here : nextJoin (mayJoin ps) (ring store at (getD lens a 0)) (pieces store lens (a + 1) count (at + getD lens a 0)) ≡ none = rw e at j in
       let z : 0 + sum (take a lens) ≡ at = omega (arith, s .front) in
       let t : sum (take (a + 1) lens) ≡ at + n = ap sum (slice-snoc 0 a lens (omega arith) c) ∙ sum-append (take a lens) (getD lens a 0 ∷ []) ∙ omega (arith, s .front) in
       record {
@@ -60,12 +61,12 @@ module _ (ps : List Pt) (tris : List (List ℕ)) (corners many : ℕ) (store len
         below = w .below;
         work =
             w .work
-            ∙ ap (λ (x : List (List ℕ)). split (take a lens) store ++ x) (head h ∙ merge-next ps _ _ none-here)
+            ∙ ap (λ (x : List (List ℕ)). split (take a lens) store ++ x) (head h ∙ merge-next (mayJoin ps) _ _ none-here)
             ∙ rw (is, pieces-snoc store lens 0 a 0 (omega arith) c, z, append-assoc);
       }
 
   pub work-join :
-      (r : Join) → Joins store lens count a at (getD lens a 0) (nextJoin ps (ring store at (getD lens a 0)) (pieces store lens (a + 1) count (at + getD lens a 0))) r
+      (r : Join) → Joins store lens count a at (getD lens a 0) (nextJoin (mayJoin ps) (ring store at (getD lens a 0)) (pieces store lens (a + 1) count (at + getD lens a 0))) r
       → (own : Ring) (b : ℕ) (mate : Ring) → r ≡ At own b mate → (store' lens' : List ℕ) → Changed store lens count total a own b mate store' lens'
       → Work ps tris corners many store' lens' (count - 1) (total - 2) a at
   unfolding Joins
@@ -103,12 +104,12 @@ module _ (ps : List Pt) (tris : List (List ℕ)) (corners many : ℕ) (store len
         below = c .below (length ps - 1) (w .below);
         work =
             w .work
-            ∙ ap (λ (x : List (List ℕ)). split (take a lens) store ++ x) (head h ∙ merge-join ps _ _ _ (f .2) n ∙ ap (merge ps) (sym now'))
-            ∙ ap (λ (x : List (List ℕ)). x ++ merge ps (pieces store' lens' a (count - 1) at)) (sym front);
+            ∙ ap (λ (x : List (List ℕ)). split (take a lens) store ++ x) (head h ∙ merge-join (mayJoin ps) _ _ _ (f .2) n ∙ ap (merge (mayJoin ps)) (sym now'))
+            ∙ ap (λ (x : List (List ℕ)). x ++ merge (mayJoin ps) (pieces store' lens' a (count - 1) at)) (sym front);
       }
 
   pub joinable :
-      (r : Join) → Joins store lens count a at (getD lens a 0) (nextJoin ps (ring store at (getD lens a 0)) (pieces store lens (a + 1) count (at + getD lens a 0))) r
+      (r : Join) → Joins store lens count a at (getD lens a 0) (nextJoin (mayJoin ps) (ring store at (getD lens a 0)) (pieces store lens (a + 1) count (at + getD lens a 0))) r
       → (own : Ring) (b : ℕ) (mate : Ring) → r ≡ At own b mate → Joinable store lens count total a own b mate
   unfolding Joins
   joinable r q own b mate e =
@@ -122,7 +123,7 @@ module _ (ps : List Pt) (tris : List (List ℕ)) (corners many : ℕ) (store len
       }
 
   -- what is to be joined fits where it is kept meanwhile
-  pub fits : (total ≤ 1530) × (count ≤ 510)
+  pub fits : (total ≤ mostIndices) × (count ≤ mostTriangles)
   fits = let s = w .stands in (omega (arith, s .whole, s .lies .room, s .store-size), omega (arith, s .lies .counted, s .lens-size))
 
   pub three-left : a < count → 3 ≤ total
@@ -130,7 +131,7 @@ module _ (ps : List Pt) (tris : List (List ℕ)) (corners many : ℕ) (store len
       let s = w .stands in
       omega (arith, s .whole, sum-slice a count lens h (s .lies .counted), here store lens count a at (getD lens a 0) refl (s .lies) h .long)
 
-  pub work-end : count ≤ a → (merge ps tris ≡ pieces store lens 0 count 0) × (sum (take count lens) ≡ total)
+  pub work-end : count ≤ a → (merge (mayJoin ps) tris ≡ pieces store lens 0 count 0) × (sum (take count lens) ≡ total)
   unfolding split merge sum
   work-end h =
       let e : a ≡ count = omega (arith, w .before) in
@@ -165,17 +166,17 @@ take-threes (suc m) zero h = absurd (omega arith)
 take-threes (suc m) (suc n) h = ap (λ (l : List ℕ). 3 ∷ l) (take-threes m n (omega arith))
 
 pub work-first :
-    (ps : List Pt) (tri zeros store lens : List ℕ) → length tri % 3 ≡ 0 → length tri ≤ 1530 → zeros ≡ replicate 1530 0 → Each (λ i. i < length ps) tri
-    → store ≡ over tri zeros → lens ≡ replicate 510 3
+    (ps : List Pt) (tri zeros store lens : List ℕ) → length tri % 3 ≡ 0 → length tri ≤ mostIndices → zeros ≡ replicate mostIndices 0 → Each (λ i. i < length ps) tri
+    → store ≡ over tri zeros → lens ≡ replicate mostTriangles 3
     → Work ps (triples tri) (length tri) (length tri / 3) store lens (length tri / 3) (length tri) 0 0
 unfolding split sum
 work-first ps tri zeros store lens d h zs below e f =
-    let z : length zeros ≡ 1530 = ap length zs ∙ length-replicate {A = ℕ} 1530 0 in
+    let z : length zeros ≡ mostIndices = ap length zs ∙ length-replicate {A = ℕ} mostIndices 0 in
     let m = length tri / 3 in
     let l : length tri ≡ 3 * m = omega arith in
-    let t : take m lens ≡ replicate m 3 = ap (take m) f ∙ take-threes m 510 (omega arith) in
-    let size : length store ≡ 1530 = ap length e ∙ simp (length-append, length-drop) (omega arith) in
-    let many : length lens ≡ 510 = ap length f ∙ length-replicate {A = ℕ} 510 3 in
+    let t : take m lens ≡ replicate m 3 = ap (take m) f ∙ take-threes m mostTriangles (omega arith) in
+    let size : length store ≡ mostIndices = ap length e ∙ simp (length-append, length-drop) (omega arith) in
+    let many : length lens ≡ mostTriangles = ap length f ∙ length-replicate {A = ℕ} mostTriangles 3 in
     record {
       stands = record {
         store-size = size;
@@ -188,7 +189,7 @@ work-first ps tri zeros store lens d h zs below e f =
       few = omega arith;
       small = omega arith;
       below = each-first tri zeros store zs (omega arith) (each-imp (λ i l. at-most i l) below) e;
-      work = ap (merge ps) (sym (rw (t, e) (split-triples m tri (drop (length tri) zeros) l)));
+      work = ap (merge (mayJoin ps)) (sym (rw (t, e) (split-triples m tri (drop (length tri) zeros) l)));
     }
   where
     at-most : (i : ℕ) → i < length ps → i ≤ length ps - 1

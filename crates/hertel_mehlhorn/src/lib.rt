@@ -1,25 +1,25 @@
 // The merger: after the crate's src/transformation/hertel_mehlhorn.rs.
+use entries::Answer;
+use entries::MOST_POINTS;
+use entries::MOST_TRIANGLES;
+use entries::wide;
+use entries::zeros;
+use grid::outline::outline_refusal;
 use joins::Join;
 use joins::next_join;
 use pieces::joining::join_pieces;
 use pieces::ring::Ring;
-use pieces::ring::wide;
 use pieces::ring::write_ring;
 ghost use mathlib.Core.Path.{_≡_};
 ghost use Prim.Native.Nat.{_/_, _%_, _≤_};
 ghost use lib.ListN.{length, take, replicate};
+ghost use Rattle.rules.specs.Limits.{mostTriangles, mostIndices};
 ghost use Rattle.rules.specs.Grid.{pointsOf};
 ghost use Rattle.rules.specs.Layout.{flatten, triples, over};
-ghost use Rattle.rules.specs.Merge.{merge as mergeOf};
-ghost use Rattle.rules.specs.Refusals.{firstRefusal, mergerChecks};
+ghost use Rattle.rules.specs.Merge.{mayJoin, merge as mergeOf};
+ghost use Rattle.rules.specs.Refusals.{firstRefusal, outOfRange, beforeTriangles, mergerChecks};
 ghost use Rattle.pieces.specs.Pieces.{pieces, sum, Known};
-ghost use Rattle.hertel_mehlhorn.specs.Promise.{Written, Promise, anyFrom};
-
-// Document 01's number, and how many pieces were written.
-pub struct Answer {
-    pub number: u32,
-    pub count: u32,
-}
+ghost use Rattle.hertel_mehlhorn.specs.Promise.{Written, Promise};
 
 // Writes the pieces one behind the other to `out`, and their lengths to `sizes`.
 fn write_pieces(store: &[u32], lens: &[u32], count: usize, out: &mut [u32], sizes: &mut [u32])
@@ -45,28 +45,23 @@ fn write_pieces(store: &[u32], lens: &[u32], count: usize, out: &mut [u32], size
     }
 }
 
-fn zeros() -> [u32; 1530]
-    ensures { λ r. ⌜ r ≡ replicate 1530 0 ⌝ }
+fn threes() -> [u32; MOST_TRIANGLES]
+    ensures { λ r. ⌜ length r ≡ mostTriangles ⌝ }
+    ensures { λ r. ⌜ r ≡ replicate mostTriangles 3 ⌝ }
 {
-    [0u32; 1530]
-}
-
-fn threes() -> [u32; 510]
-    ensures { λ r. ⌜ r ≡ replicate 510 3 ⌝ }
-{
-    [3u32; 510]
+    [3u32; MOST_TRIANGLES]
 }
 
 // The merge of the given triangles, three indices each: the pieces one behind the other in `indices`, and their lengths in
 // `lengths`. Answers the number of pieces.
 fn merge(coords: &[f32], triangles: &[u32], indices: &mut [u32], lengths: &mut [u32]) -> usize
     requires { ⌜ Known (now coords) (now triangles) ⌝ }
-    requires { ⌜ (length (now triangles) % 3 ≡ 0) × (length (now triangles) ≤ 1530) ⌝ }
+    requires { ⌜ (length (now triangles) % 3 ≡ 0) × (length (now triangles) ≤ mostIndices) ⌝ }
     requires { ⌜ (length (now triangles) ≤ length (now indices)) × (length (now triangles) / 3 ≤ length (now lengths)) ⌝ }
     ensures { λ r. ⌜
-        Written (mergeOf (pointsOf (now (coords .entry))) (triples (now (triangles .entry)))) (now (indices .entry)) (now (lengths .entry)) r (now (indices .exit)) (now (lengths .exit))
+        Written (mergeOf (mayJoin (pointsOf (now (coords .entry)))) (triples (now (triangles .entry)))) (now (indices .entry)) (now (lengths .entry)) r (now (indices .exit)) (now (lengths .exit))
         ⌝ }
-    ensures { λ r. ⌜ r ≤ 510 ⌝ }
+    ensures { λ r. ⌜ r ≤ mostTriangles ⌝ }
 {
     let mut total = triangles.len();
     let mut count = total / 3;
@@ -107,7 +102,7 @@ fn merge(coords: &[f32], triangles: &[u32], indices: &mut [u32], lengths: &mut [
 
 // Whether an index is not below n.
 fn out_of_range(triangles: &[u32], n: usize) -> bool
-    ensures { λ r. ⌜ r ≡ anyFrom n (now (triangles .entry)) ⌝ }
+    ensures { λ r. ⌜ r ≡ outOfRange n (now (triangles .entry)) ⌝ }
 {
     let mut i = 0;
     while i < triangles.len() {
@@ -119,27 +114,33 @@ fn out_of_range(triangles: &[u32], n: usize) -> bool
     false
 }
 
+// The number of the first refusal that applies before the triangles are looked at, of which there are as many indices, and 0 where
+// none does.
+pub fn early_refusal(coords: &[f32], indices: usize) -> u32
+    ensures { λ r. ⌜ r ≡ firstRefusal (beforeTriangles (now (coords .entry)) indices) ⌝ }
+{
+    let number = outline_refusal(0, MOST_POINTS, coords);
+    if number != 0 {
+        return number;
+    }
+    if indices % 3 != 0 {
+        return 8;
+    }
+    if MOST_TRIANGLES < indices / 3 {
+        return 10;
+    }
+    0
+}
+
 // The number of the first refusal that applies, and 0 where none does: for room for indices and places for lengths.
 fn refusal(coords: &[f32], triangles: &[u32], room: usize, places: usize) -> u32
     ensures { λ r. ⌜ r ≡ firstRefusal (mergerChecks (now (coords .entry)) (now (triangles .entry)) room places) ⌝ }
 {
-    if coords.len() % 2 == 1 {
-        return 1;
+    let number = early_refusal(coords, triangles.len());
+    if number != 0 {
+        return number;
     }
-    let n = coords.len() / 2;
-    if 512 < n {
-        return 3;
-    }
-    if grid::off_grid(coords) {
-        return 4;
-    }
-    if triangles.len() % 3 != 0 {
-        return 8;
-    }
-    if 510 < triangles.len() / 3 {
-        return 10;
-    }
-    if out_of_range(triangles, n) {
+    if out_of_range(triangles, coords.len() / 2) {
         return 9;
     }
     if room < triangles.len() {

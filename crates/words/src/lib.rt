@@ -1,4 +1,5 @@
 // Numbers in slices: copied, and read from and written to bytes, four each, low byte first.
+use entries::wide_byte;
 ghost use mathlib.Core.Path.{_≡_};
 ghost use mathlib.Core.List.{_++_};
 ghost use Prim.Native.Nat.{_+_, _*_, _/_, _≤_, _<_};
@@ -20,23 +21,16 @@ pub fn copy(from: &[u32], to: &mut [u32])
     }
 }
 
-fn wide(b: u8) -> u32
-    ensures { λ r. ⌜ r ≡ b ⌝ }
-    ensures { λ r. ⌜ r < 256 ⌝ }
-{
-    b as u32
-}
-
 // Number i of the words.
 pub fn word(bytes: &[u8], i: usize) -> u32
     requires { ⌜ i * 4 + 3 < length (now bytes) ⌝ }
     ensures { λ r. ⌜ r ≡ wordAt (now (bytes .entry)) i ⌝ }
 {
     let k = i * 4;
-    wide(bytes[k])
-        + wide(bytes[k + 1]) * 256
-        + wide(bytes[k + 2]) * 65536
-        + wide(bytes[k + 3]) * 16777216
+    wide_byte(bytes[k])
+        + wide_byte(bytes[k + 1]) * 256
+        + wide_byte(bytes[k + 2]) * 65536
+        + wide_byte(bytes[k + 3]) * 16777216
 }
 
 // The float with these bits; every pattern of a NaN is one NaN.

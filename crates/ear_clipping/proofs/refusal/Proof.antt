@@ -12,7 +12,7 @@ use lib.ListN.{length}
 use lib.Ieee.{Float}
 use Rattle.rules.specs.Limits.{mostPoints}
 use Rattle.rules.specs.Grid.{pointsOf}
-use Rattle.rules.specs.Refusals.{_gives_, firstRefusal, offGrid, equalNeighbours, outlineChecks, beforeCutting}
+use Rattle.rules.specs.Refusals.{_gives_, firstRefusal, equalNeighbours, outlineChecks, beforeCutting}
 use Rattle.rules.proofs.Rows.{row-on, row-off, no-rows, front-gives}
 use Rattle.rules.proofs.Coordinates.{points-length}
 use Rattle.rules.proofs.Outlines.{Outlined, outlined, past-outline}

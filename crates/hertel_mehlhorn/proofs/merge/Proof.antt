@@ -2,39 +2,37 @@
 use Prim.Native.Nat.{ℕ, _-_, _/_, _≤_, _<_}
 use native.Mathlib.Omega.{arith}
 use borrow.Author.Needs.{needs}
-use mathlib.Core.Path.{_≡_, sym, ap, _∙_}
+use mathlib.Core.Path.{_≡_, sym, _∙_}
 use mathlib.Core.List.{List}
-use lib.ListN.{length, take, replicate, length-replicate}
+use lib.ListN.{length, take}
 use denote.Ref.{now}
+use Rattle.rules.specs.Limits.{mostTriangles, mostIndices}
 use Rattle.rules.specs.Plane.{Pt}
 use Rattle.rules.specs.Grid.{pointsOf}
 use Rattle.rules.specs.Layout.{triples}
-use Rattle.rules.specs.Merge.{merge as mergeOf}
+use Rattle.rules.specs.Merge.{mayJoin, merge as mergeOf}
 use Rattle.pieces.specs.Pieces.{sum, pieces}
 use Rattle.pieces.proofs.Lists.{here}
 use Rattle.hertel_mehlhorn.proofs.Merging.{Work, known, work-first, work-next, work-join, joinable, fits, three-left, work-end, work-done}
 use Rattle.hertel_mehlhorn.proofs.merge.Statement.{statement}
 use Rattle.hertel_mehlhorn.proofs.merge.Tie as tie
 
-same-all : (n k : ℕ) (l : List ℕ) → l ≡ replicate n k → length l ≡ n
-same-all n k l e = ap length e ∙ length-replicate {A = ℕ} n k
-
 abbrev Inv-loop : tie.InvT-loop
-Inv-loop coords triangles indices lengths total₀ count₀ store₀ lens₀ old₀ sizes₀ a₀ at₀ total count store lens old sizes a at = Work (pointsOf coords) (triples triangles) (length triangles) (length triangles / 3) store lens count total a at × (length old ≡ 1530) × (length sizes ≡ 510)
+Inv-loop coords triangles indices lengths total₀ count₀ store₀ lens₀ old₀ sizes₀ a₀ at₀ total count store lens old sizes a at = Work (pointsOf coords) (triples triangles) (length triangles) (length triangles / 3) store lens count total a at × (length old ≡ mostIndices) × (length sizes ≡ mostTriangles)
 
 abbrev μ-loop : tie.MeasureT-loop
 μ-loop coords triangles indices lengths total₀ count₀ store₀ lens₀ old₀ sizes₀ a₀ at₀ total count store lens old sizes a at = count - a
 
 -- what is left when the loop ends
 record End (ps : List Pt) (tris : List (List ℕ)) (corners : ℕ) (store lens : List ℕ) (count : ℕ) : Type 0 where
-  all : mergeOf ps tris ≡ pieces store lens 0 count 0
+  all : mergeOf (mayJoin ps) tris ≡ pieces store lens 0 count 0
   in-lens : count ≤ length lens
-  low : count ≤ 510
+  low : count ≤ mostTriangles
   in-store : sum (take count lens) ≤ length store
   in-corners : sum (take count lens) ≤ corners
 
 at-end :
-    (ps : List Pt) (tris : List (List ℕ)) (corners many : ℕ) (store lens : List ℕ) (count total a at : ℕ) → Work ps tris corners many store lens count total a at → corners ≤ 1530 → count ≤ a
+    (ps : List Pt) (tris : List (List ℕ)) (corners many : ℕ) (store lens : List ℕ) (count total a at : ℕ) → Work ps tris corners many store lens count total a at → corners ≤ mostIndices → count ≤ a
     → End ps tris corners store lens count
 at-end ps tris corners many store lens count total a at w h e =
     let d = work-end ps tris corners many store lens count total a at w e in
@@ -88,7 +86,7 @@ abbrev test-joined : tie.After-join-pieces Inv-loop μ-loop → tie.In-loop Inv-
 test-joined c = test (join (joined-told c))
 
 -- the turn's piece has a length
-in-lens : (c : tie.In-loop Inv-loop μ-loop) → c .before .loop .a < 510
+in-lens : (c : tie.In-loop Inv-loop μ-loop) → c .before .loop .a < mostTriangles
 in-lens c = let s = c .before .loop .inv .0 .stands in omega (arith, c .loop-test .taken, s .lies .counted, s .lens-size)
 
 -- behind the loop
@@ -112,12 +110,12 @@ threes-requires : tie.Need-threes-requires Inv-loop μ-loop
 threes-requires c κs = search needs
 
 slice-aggregate-copy : tie.Need-slice-aggregate-copy Inv-loop μ-loop
-slice-aggregate-copy c = sym (same-all 1530 0 _ (c .before .before .zeros .ensures))
+slice-aggregate-copy c = sym (c .before .before .zeros .ensures .0)
 
 copy-requires : tie.Need-copy-requires Inv-loop μ-loop
 copy-requires c κs =
     let z = c .before .before in
-    omega (arith, same-all 1530 0 _ (z .zeros .ensures), start z .pre .1 .0)
+    omega (arith, z .zeros .ensures .0, start z .pre .1 .0)
 
 zeros-requires-2 : tie.Need-zeros-requires-2 Inv-loop μ-loop
 zeros-requires-2 c κs = search needs
@@ -130,8 +128,8 @@ loop-holds c =
     let t = threes c in
     let z = t .before in
     let p = start z .pre in
-    let w = work-first _ _ _ _ _ (p .1 .0 .0) (p .1 .0 .1) (z .zeros .ensures) (p .0 .below) (copied c .copy .ensures) (t .threes .ensures) in
-    (w, same-all 1530 0 _ (c .before .zeros2 .ensures), same-all 510 3 _ (c .threes2 .ensures))
+    let w = work-first _ _ _ _ _ (p .1 .0 .0) (p .1 .0 .1) (z .zeros .ensures .1) (p .0 .below) (copied c .copy .ensures) (t .threes .ensures .1) in
+    (w, c .before .zeros2 .ensures .0, c .threes2 .ensures .0)
 
 slice-aggregate-next-join : tie.Need-slice-aggregate-next-join Inv-loop μ-loop
 slice-aggregate-next-join c = sym (c .before .before .loop .inv .0 .stands .store-size)

@@ -4,13 +4,13 @@ use mathlib.Core.Path.{_≡_, sym, _∙_}
 use native.Mathlib.Omega.{arith}
 use borrow.Author.Needs.{needs}
 use lib.ListN.{length, drop}
-use Rattle.hertel_mehlhorn.specs.Promise.{anyFrom}
+use Rattle.rules.specs.Refusals.{outOfRange}
 use Rattle.hertel_mehlhorn.proofs.Ranges.{range-more, range-out, range-end}
 use Rattle.hertel_mehlhorn.proofs.out_of_range.Statement.{statement}
 use Rattle.hertel_mehlhorn.proofs.out_of_range.Tie as tie
 
 abbrev Inv-loop : tie.InvT-loop
-Inv-loop triangles n i₀ i = (i ≤ length triangles) × (anyFrom n triangles ≡ anyFrom n (drop i triangles))
+Inv-loop triangles n i₀ i = (i ≤ length triangles) × (outOfRange n triangles ≡ outOfRange n (drop i triangles))
 
 abbrev μ-loop : tie.MeasureT-loop
 μ-loop triangles n i₀ i = length triangles - i
