@@ -13,10 +13,11 @@ use Rattle.rules.specs.Cut.{Cut, stuck, done, cut}
 use Rattle.rules.specs.Layout.{flatten, over}
 use Rattle.rules.specs.Refusals.{_gives_, isStuck, noEar, firstRefusal, beforeCutting}
 use Rattle.rules.specs.Entries.{trianglesOf, trianglesFor, cutter}
-use Rattle.rules.proofs.Rows.{row-on, row-off, no-rows}
+use Rattle.rules.proofs.Rows.{row-on, row-off, no-rows, front-gives, others-decide}
+use Rattle.rules.proofs.Fronts.{seven-front}
 use Rattle.rules.proofs.Outline.{cut-count}
 use Rattle.rules.proofs.Answers.{cutter-number, cutter-answered, cutter-refused}
-use Rattle.rules.proofs.Accepted.{ready, seven-decides, refused-early}
+use Rattle.rules.proofs.Accepted.{ready}
 use Rattle.entries.specs.declared.Answer.{Answer}
 use Rattle.entries.proofs.Answers.{answers-equal}
 use Rattle.ear_clipping.specs.Promise.{Promise, Written}
@@ -35,11 +36,11 @@ module _ (cs : List Float) (out : List ℕ) {first : ℕ} (is : first ≡ firstR
   ps = pointsOf cs
 
   pub refused : first ≢ 0 → Promise cs out (record { number = first; count = 0 }) out
-  refused d = refusing cs out first (cutter-number cs out ∙ sym (refused-early cs (length out) first is d)) d
+  refused d = refusing cs out first (cutter-number cs out ∙ sym (front-gives (seven-front cs (length out)) is d)) d
 
   module _ (none : first ≡ 0) (n : ℕ) (after : List ℕ) (w : Written ps out n after) where
     seven-left : cutter cs out .number ≡ firstRefusal (noEar ps gives 7 ∷ [])
-    seven-left = cutter-number cs out ∙ seven-decides cs (length out) (sym is ∙ none)
+    seven-left = cutter-number cs out ∙ others-decide (seven-front cs (length out)) (sym is ∙ none)
 
     triangles-of : (r : Cut) → cut ps ≡ r → trianglesFor ps ≡ map ringOf (trianglesOf r)
     unfolding trianglesFor

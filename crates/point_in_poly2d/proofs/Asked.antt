@@ -10,10 +10,11 @@ use Rattle.algebra.proofs.Equal.{or-false, not-false}
 use Rattle.rules.specs.Limits.{mostPoints}
 use Rattle.rules.specs.Plane.{Pt}
 use Rattle.rules.specs.Grid.{onGrid, pointOf, pointsOf}
-use Rattle.rules.specs.Refusals.{offGrid, firstRefusal, outlineChecks, pointTestChecks}
+use Rattle.rules.specs.Refusals.{offGrid, firstRefusal, pointTestChecks}
 use Rattle.rules.specs.Entries.{Asking, asking, pointInPoly2d, pointInConvexPoly2d}
-use Rattle.rules.proofs.Rows.{passes, front-none}
-use Rattle.rules.proofs.Outlines.{outlined, past-outline}
+use Rattle.rules.proofs.Rows.{passes, front-none, others-decide}
+use Rattle.rules.proofs.Fronts.{asked-front}
+use Rattle.rules.proofs.Outlines.{outlined}
 use Rattle.rules.proofs.Answers.{asking-number, asking-answered, asking-refused}
 use Rattle.grid.specs.declared.point.Point.{Point}
 use Rattle.grid.specs.Points.{onGridPt}
@@ -49,11 +50,10 @@ points-on x y e p i j =
     rw (i, j, not-false (onGrid x) a, not-false (onGrid y) d)
 
 pub accepted : (x y : Float) (cs : List Float) (n : ℕ) → n ≡ firstRefusal (pointTestChecks x y cs) → n ≡ 0 → (p : Point) → p .x ≡ x → p .y ≡ y → (onGridPt p ≡ true) × (offGrid cs ≡ false)
-unfolding pointTestChecks
 accepted x y cs n e h p i j =
     let rows = sym e ∙ h in
-    let none = front-none (outlineChecks 0 mostPoints cs) _ rows in
-    let asked = passes (offGrid (x ∷ y ∷ [])) 3 _ (sym (past-outline 0 mostPoints cs _ none) ∙ rows) .0 in
+    let none = front-none (asked-front x y cs) rows in
+    let asked = passes (offGrid (x ∷ y ∷ [])) 3 _ (sym (others-decide (asked-front x y cs) none) ∙ rows) .0 in
     (points-on x y asked p i j, outlined 0 mostPoints cs none .on-grid)
 
 -- ---- the verdict has the number and the answer that the rules give, refused or not

@@ -17,12 +17,13 @@ use Rattle.rules.specs.Plane.{Pt, point, same}
 use Rattle.rules.specs.Grid.{pointsOf}
 use Rattle.rules.specs.Cut.{Cut, stuck, done, cut}
 use Rattle.rules.specs.Measure.{points, Apart}
-use Rattle.rules.specs.Refusals.{Row, _gives_, firstRefusal, equalNeighbours, isStuck, noEar, outOfRange, countChecks, outlineChecks, beforeCutting, cutterChecks, listChecks, beforeTriangles, mergerChecks}
+use Rattle.rules.specs.Refusals.{firstRefusal, equalNeighbours, isStuck, noEar, outOfRange, countChecks, outlineChecks, beforeCutting, cutterChecks, listChecks, mergerChecks}
 use Rattle.rules.specs.Entries.{cutter}
-use Rattle.rules.proofs.Rows.{passes, applies, row-on, front-gives, front-none, front-off, front-skips}
+use Rattle.rules.proofs.Rows.{passes, applies, row-on, front-none, front-skips, others-decide}
+use Rattle.rules.proofs.Fronts.{cutter-front, seven-front, list-front, triangles-front}
 use Rattle.rules.proofs.Points.{differ}
 use Rattle.rules.proofs.Outline.{all-points}
-use Rattle.rules.proofs.Outlines.{Outlined, outlined, past-outline}
+use Rattle.rules.proofs.Outlines.{Outlined, outlined}
 use Rattle.rules.proofs.Stuck.{NoEarLeft, stuck→no-ear, no-ear→stuck}
 use Rattle.rules.proofs.Answers.{cutter-number}
 
@@ -50,26 +51,11 @@ module _ (cs : List Float) (room : ℕ) where
     pub fits : 3 * (length outline - 2) ≤ room
 
   pub ready : firstRefusal (beforeCutting cs room) ≡ 0 → Ready
-  unfolding beforeCutting
   ready e =
-      let none = front-none (outlineChecks 3 mostPoints cs) _ e in
-      let (equal, e₅) = passes (equalNeighbours outline) 4 _ (sym (past-outline 3 mostPoints cs _ none) ∙ e) in
+      let none = front-none (cutter-front cs room) e in
+      let (equal, e₅) = passes (equalNeighbours outline) 4 _ (sym (others-decide (cutter-front cs room) none) ∙ e) in
       let (short, e₆) = passes (ltb room (3 * (length outline - 2))) 5 _ e₅ in
       record { outlines = outlined 3 mostPoints cs none; no-equals = equal; fits = ltb-false room (3 * (length outline - 2)) short }
-
-  -- and then 7 decides
-  pub seven-decides : firstRefusal (beforeCutting cs room) ≡ 0 → firstRefusal (cutterChecks cs room) ≡ firstRefusal (noEar outline gives 7 ∷ [])
-  unfolding cutterChecks beforeCutting outlineChecks countChecks
-  seven-decides e = front-off (beforeCutting cs room) (noEar outline gives 7 ∷ []) refl e
-
-  -- what is refused before 7 is refused
-  pub refused-early : (n : ℕ) → n ≡ firstRefusal (beforeCutting cs room) → n ≢ 0 → n ≡ firstRefusal (cutterChecks cs room)
-  unfolding cutterChecks
-  refused-early n e d = front-gives (beforeCutting cs room) (noEar outline gives 7 ∷ []) n e d
-
-  pub not-early : firstRefusal (cutterChecks cs room) ≡ 0 → firstRefusal (beforeCutting cs room) ≡ 0
-  unfolding cutterChecks
-  not-early e = front-none (beforeCutting cs room) (noEar outline gives 7 ∷ []) e
 
 -- ---- an accepted outline
 
@@ -89,9 +75,9 @@ pub accepted : (cs : List Float) (room : ℕ) → firstRefusal (cutterChecks cs 
 unfolding equalNeighbours noEar
 accepted cs room e =
     let ps = pointsOf cs in
-    let early = not-early cs room e in
+    let early = front-none (seven-front cs room) e in
     let r = ready cs room early in
-    let (ear, last) = passes (noEar ps) 6 _ (sym (seven-decides cs room early) ∙ e) in
+    let (ear, last) = passes (noEar ps) 6 _ (sym (others-decide (seven-front cs room) early) ∙ e) in
     let (ts, is) = not-stuck (cut ps) ear in
     record {
       three = r .outlines .at-least;
@@ -118,18 +104,18 @@ module _ (cs : List Float) (out : List ℕ) where
     pub ring : NoEarLeft ps (countFrom 0 (length ps))
 
   pub seven→stuck : cutter cs out .number ≡ 7 → StuckOnTheWay
-  unfolding cutterChecks beforeCutting outlineChecks countChecks noEar
+  unfolding beforeCutting outlineChecks countChecks noEar
   seven→stuck e =
       let rows : firstRefusal (cutterChecks cs (length out)) ≡ 7 = sym (cutter-number cs out) ∙ e in
-      let early = front-skips 7 (beforeCutting cs (length out)) (noEar ps gives 7 ∷ []) refl rows in
-      let is = stuck-is (cut ps) (applies (noEar ps) 6 (sym (seven-decides cs (length out) early) ∙ rows)) in
+      let early = front-skips (seven-front cs (length out)) 7 refl rows in
+      let is = stuck-is (cut ps) (applies (noEar ps) 6 (sym (others-decide (seven-front cs (length out)) early) ∙ rows)) in
       record { no-earlier = early; ring = stuck→no-ear ps (ready cs (length out) early .outlines .at-least) is }
 
   pub stuck→seven : StuckOnTheWay → cutter cs out .number ≡ 7
   unfolding noEar
   stuck→seven h =
       let three = ready cs (length out) (h .no-earlier) .outlines .at-least in
-      cutter-number cs out ∙ seven-decides cs (length out) (h .no-earlier) ∙ row-on 7 [] (ap isStuck (no-ear→stuck ps three (h .ring)))
+      cutter-number cs out ∙ others-decide (seven-front cs (length out)) (h .no-earlier) ∙ row-on 7 [] (ap isStuck (no-ear→stuck ps three (h .ring)))
 
 -- ---- the merger's
 
@@ -145,20 +131,15 @@ module _ (cs : List Float) (triangles : List ℕ) (room roomForLengths : ℕ) wh
   abbrev n : ℕ
   n = length triangles
 
-  -- where the rows that need no look at the triangles give none, the others decide
-  pub range-decides : (more : List Row) → firstRefusal (beforeTriangles cs n) ≡ 0 → firstRefusal (beforeTriangles cs n ++ more) ≡ firstRefusal more
-  unfolding beforeTriangles outlineChecks countChecks listChecks
-  range-decides more e = front-off (beforeTriangles cs n) more refl e
-
   pub in-range : firstRefusal (mergerChecks cs triangles room roomForLengths) ≡ 0 → InRange cs triangles room roomForLengths
-  unfolding mergerChecks beforeTriangles listChecks outOfRange
+  unfolding listChecks outOfRange
   in-range e =
       let points = length (pointsOf cs) in
-      let none = front-none (beforeTriangles cs n) _ e in
-      let first = front-none (outlineChecks 0 mostPoints cs) (listChecks n) none in
-      let (ragged, e₈) = passes (not (eqb (n % 3) 0)) 7 _ (sym (past-outline 0 mostPoints cs (listChecks n) first) ∙ none) in
+      let none = front-none (triangles-front cs triangles room roomForLengths) e in
+      let first = front-none (list-front cs n) none in
+      let (ragged, e₈) = passes (not (eqb (n % 3) 0)) 7 _ (sym (others-decide (list-front cs n) first) ∙ none) in
       let (most, e₁₀) = passes (ltb mostTriangles (n / 3)) 9 _ e₈ in
-      let (out, e₉) = passes (outOfRange points triangles) 8 _ (sym (range-decides _ none) ∙ e) in
+      let (out, e₉) = passes (outOfRange points triangles) 8 _ (sym (others-decide (triangles-front cs triangles room roomForLengths) none) ∙ e) in
       let (short, e₆) = passes (ltb room n || ltb roomForLengths (n / 3)) 5 _ e₉ in
       let (s, t) = or-false (ltb room n) (ltb roomForLengths (n / 3)) short in
       record {

@@ -27,10 +27,11 @@ use Rattle.rules.proofs.Ears.{cut-not-right}
 use Rattle.rules.proofs.Pieces.{merge-no-right}
 use Rattle.rules.proofs.Outline.{cut-count, cut-indices}
 use Rattle.rules.proofs.Layouts.{triangles-length, triangles-back}
-use Rattle.rules.proofs.Rows.{row-off, no-rows}
-use Rattle.rules.proofs.Outlines.{Outlined, outline-none, past-outline}
+use Rattle.rules.proofs.Rows.{row-off, no-rows, front-none, others-decide}
+use Rattle.rules.proofs.Fronts.{seven-front, list-front, triangles-front}
+use Rattle.rules.proofs.Outlines.{Outlined, outline-none}
 use Rattle.rules.proofs.Answers.{cutter-number, cutter-indices, merger-number, merger-written}
-use Rattle.rules.proofs.Accepted.{ready, not-early, range-decides}
+use Rattle.rules.proofs.Accepted.{ready}
 use Rattle.rules.proofs.Results.{triangles-are, not-right, cut-result, written-inside, written-area, merged-inside, merged-area, merged-size}
 
 -- ---- the merger's rows on triangles of an outline
@@ -50,7 +51,7 @@ rows-pass :
     (cs : List Float) (ts : List (Corner ℕ)) (room roomForLengths : ℕ) → Outlined 0 mostPoints cs → length ts ≤ mostTriangles
     → Each (λ t. Each (λ i. i < length (pointsOf cs)) (ringOf t)) ts → 3 * length ts ≤ room → length ts ≤ roomForLengths
     → firstRefusal (mergerChecks cs (flatten (map ringOf ts)) room roomForLengths) ≡ 0
-unfolding mergerChecks beforeTriangles listChecks
+unfolding listChecks
 rows-pass cs ts room roomForLengths outlines few below fits fits-lengths =
     let l = flatten (map ringOf ts) in
     let n : length l ≡ 3 * length ts = triangles-length ts in
@@ -61,8 +62,8 @@ rows-pass cs ts room roomForLengths outlines few below fits fits-lengths =
     let count : ltb mostTriangles (length l / 3) ≡ false = rw d (le-ltb mostTriangles (length ts) few) in
     let short : (ltb room (length l) || ltb roomForLengths (length l / 3)) ≡ false = rw (d, n, le-ltb room (3 * length ts) fits) (le-ltb roomForLengths (length ts) fits-lengths) in
     let range = in-range-none (length (pointsOf cs)) (flat-each (each-map ringOf below)) in
-    let early : firstRefusal (beforeTriangles cs (length l)) ≡ 0 = past-outline 0 mostPoints cs (listChecks (length l)) (outline-none outlines) ∙ row-off 8 _ whole ∙ row-off 10 _ count ∙ no-rows in
-    range-decides cs l room roomForLengths _ early ∙ row-off 9 _ range ∙ row-off 6 _ short ∙ no-rows
+    let early : firstRefusal (beforeTriangles cs (length l)) ≡ 0 = others-decide (list-front cs (length l)) (outline-none outlines) ∙ row-off 8 _ whole ∙ row-off 10 _ count ∙ no-rows in
+    others-decide (triangles-front cs l room roomForLengths) early ∙ row-off 9 _ range ∙ row-off 6 _ short ∙ no-rows
 
 -- ---- the last triangle
 
@@ -105,7 +106,7 @@ module _ (cs : List Float) (cut-out out lens : List ℕ) (cut-ok : cutter cs cut
 
   outline : Outlined 0 mostPoints cs
   outline =
-      let o = ready cs (length cut-out) (not-early cs (length cut-out) (sym (cutter-number cs cut-out) ∙ cut-ok)) .outlines in
+      let o = ready cs (length cut-out) (front-none (seven-front cs (length cut-out)) (sym (cutter-number cs cut-out) ∙ cut-ok)) .outlines in
       record { even = o .even; at-least = omega arith; at-most = o .at-most; on-grid = o .on-grid }
 
   -- the merger accepts what the cut has written

@@ -25,6 +25,7 @@ pub mod Measures
 pub mod Outline
 pub mod Layouts
 pub mod Rows
+pub mod Fronts
 pub mod Outlines
 pub mod Answers
 pub mod Accepted

@@ -1,8 +1,8 @@
 -- What the rows of an outline leave where none applies, and that none applies where that is left.
 use Prim.Native.Nat.{ℕ, _/_, _%_, _≤_}
-use mathlib.Core.Path.{_≡_, refl, sym, _∙_}
+use mathlib.Core.Path.{_≡_, sym, _∙_}
 use mathlib.Core.Bool.{false}
-use mathlib.Core.List.{List, [], _∷_, _++_}
+use mathlib.Core.List.{List, []}
 use native.Mathlib.Omega.{arith}
 use borrow.Author.Tests.{le-ltb}
 use lib.Dec.{eqb, ltb}
@@ -10,8 +10,9 @@ use lib.ListN.{length}
 use lib.Ieee.{Float}
 use Rattle.algebra.proofs.Equal.{ltb-false}
 use Rattle.rules.specs.Grid.{pointsOf}
-use Rattle.rules.specs.Refusals.{Row, _gives_, firstRefusal, offGrid, countChecks, outlineChecks}
-use Rattle.rules.proofs.Rows.{passes, row-off, no-rows, front-none, front-off}
+use Rattle.rules.specs.Refusals.{firstRefusal, offGrid, countChecks, outlineChecks}
+use Rattle.rules.proofs.Rows.{passes, row-off, no-rows, front-none, others-decide}
+use Rattle.rules.proofs.Fronts.{count-front}
 use Rattle.rules.proofs.Coordinates.{points-length}
 
 -- ---- the number of coordinates
@@ -33,11 +34,6 @@ count-none : {least most n : ℕ} → Counted least most n → firstRefusal (cou
 unfolding countChecks
 count-none {least} {most} {n} c = row-off 1 _ (c .even) ∙ row-off 2 _ (le-ltb (n / 2) least (c .at-least)) ∙ row-off 3 _ (le-ltb most (n / 2) (c .at-most)) ∙ no-rows
 
--- where none applies, the rows behind decide
-pub past-count : (least most n : ℕ) (more : List Row) → firstRefusal (countChecks least most n) ≡ 0 → firstRefusal (countChecks least most n ++ more) ≡ firstRefusal more
-unfolding countChecks
-past-count least most n more e = front-off (countChecks least most n) more refl e
-
 -- ---- the outline
 
 pub record Outlined (least most : ℕ) (cs : List Float) : Type 0 where
@@ -47,19 +43,13 @@ pub record Outlined (least most : ℕ) (cs : List Float) : Type 0 where
   pub on-grid : offGrid cs ≡ false
 
 pub outlined : (least most : ℕ) (cs : List Float) → firstRefusal (outlineChecks least most cs) ≡ 0 → Outlined least most cs
-unfolding outlineChecks
 outlined least most cs e =
-    let none = front-none (countChecks least most (length cs)) (offGrid cs gives 4 ∷ []) e in
+    let none = front-none (count-front least most cs) e in
     let c = counted least most (length cs) none in
-    let off = passes (offGrid cs) 3 [] (sym (past-count least most (length cs) (offGrid cs gives 4 ∷ []) none) ∙ e) .0 in
+    let off = passes (offGrid cs) 3 [] (sym (others-decide (count-front least most cs) none) ∙ e) .0 in
     record { even = c .even; at-least = omega (arith, c .at-least, points-length cs); at-most = omega (arith, c .at-most, points-length cs); on-grid = off }
 
 pub outline-none : {least most : ℕ} {cs : List Float} → Outlined least most cs → firstRefusal (outlineChecks least most cs) ≡ 0
-unfolding outlineChecks
 outline-none {least} {most} {cs} o =
     let c : Counted least most (length cs) = record { even = o .even; at-least = omega (arith, o .at-least, points-length cs); at-most = omega (arith, o .at-most, points-length cs) } in
-    past-count least most (length cs) (offGrid cs gives 4 ∷ []) (count-none c) ∙ row-off 4 [] (o .on-grid) ∙ no-rows
-
-pub past-outline : (least most : ℕ) (cs : List Float) (more : List Row) → firstRefusal (outlineChecks least most cs) ≡ 0 → firstRefusal (outlineChecks least most cs ++ more) ≡ firstRefusal more
-unfolding outlineChecks countChecks
-past-outline least most cs more e = front-off (outlineChecks least most cs) more refl e
+    others-decide (count-front least most cs) (count-none c) ∙ row-off 4 [] (o .on-grid) ∙ no-rows

@@ -1,6 +1,6 @@
 -- Laws of a list of refusals: what the number that it gives says of its rows, and back.
 use Prim.Native.Nat.{ℕ, suc}
-use mathlib.Core.Path.{_≡_, refl}
+use mathlib.Core.Path.{_≡_, refl, sym, _∙_, ap}
 use mathlib.Core.Logic.{_≢_}
 use mathlib.Core.Bool.{Bool, true, false, _||_}
 use mathlib.Core.List.{List, [], _∷_, _++_}
@@ -40,34 +40,53 @@ applies false n h = absurd (omega arith)
 
 -- ---- rows in front of others
 
--- what the front rows give, all of them give
-pub front-gives : (rows more : List Row) (n : ℕ) → n ≡ firstRefusal rows → n ≢ 0 → n ≡ firstRefusal (rows ++ more)
-unfolding firstRefusal
-front-gives [] more n e h = absurd (h e)
-front-gives (true gives k ∷ rows) more n e h = e
-front-gives (false gives k ∷ rows) more n e h = front-gives rows more n e h
-
--- where all of them give none, the front rows do
-pub front-none : (rows more : List Row) → firstRefusal (rows ++ more) ≡ 0 → firstRefusal rows ≡ 0
-unfolding firstRefusal
-front-none [] more e = refl
-front-none (true gives k ∷ rows) more e = e
-front-none (false gives k ∷ rows) more e = front-none rows more e
-
 -- some row has the number n
 abbrev pub has : ℕ → List Row → Bool
 has n [] = false
 has n (t gives k ∷ rows) = eqb k n || has n rows
 
--- where the front rows give none, the others decide; and they do where all of them give a number that no front row has
-pub front-off : (rows more : List Row) → has 0 rows ≡ false → firstRefusal rows ≡ 0 → firstRefusal (rows ++ more) ≡ firstRefusal more
-unfolding firstRefusal
-front-off [] more h e = refl
-front-off (true gives k ∷ rows) more h e = impossible (cc (eqb-same 0, or-false (eqb k 0) (has 0 rows) h .0))
-front-off (false gives k ∷ rows) more h e = front-off rows more (or-false (eqb k 0) (has 0 rows) h .1) e
+-- `rows` are the first of `all`, and `more` the others; none of the first has the number 0
+pub record Front (rows more all : List Row) : Type 0 where
+  pub whole : all ≡ rows ++ more
+  pub numbered : has 0 rows ≡ false
 
-pub front-skips : (n : ℕ) (rows more : List Row) → has n rows ≡ false → firstRefusal (rows ++ more) ≡ n → firstRefusal rows ≡ 0
+first-gives : (rows more : List Row) (n : ℕ) → n ≡ firstRefusal rows → n ≢ 0 → n ≡ firstRefusal (rows ++ more)
 unfolding firstRefusal
-front-skips n [] more h e = refl
-front-skips n (true gives k ∷ rows) more h e = impossible (cc (eqb-same n, or-false (eqb k n) (has n rows) h .0))
-front-skips n (false gives k ∷ rows) more h e = front-skips n rows more (or-false (eqb k n) (has n rows) h .1) e
+first-gives [] more n e h = absurd (h e)
+first-gives (true gives k ∷ rows) more n e h = e
+first-gives (false gives k ∷ rows) more n e h = first-gives rows more n e h
+
+first-none : (rows more : List Row) → firstRefusal (rows ++ more) ≡ 0 → firstRefusal rows ≡ 0
+unfolding firstRefusal
+first-none [] more e = refl
+first-none (true gives k ∷ rows) more e = e
+first-none (false gives k ∷ rows) more e = first-none rows more e
+
+first-skips : (n : ℕ) (rows more : List Row) → has n rows ≡ false → firstRefusal (rows ++ more) ≡ n → firstRefusal rows ≡ 0
+unfolding firstRefusal
+first-skips n [] more h e = refl
+first-skips n (true gives k ∷ rows) more h e = impossible (cc (eqb-same n, or-false (eqb k n) (has n rows) h .0))
+first-skips n (false gives k ∷ rows) more h e = first-skips n rows more (or-false (eqb k n) (has n rows) h .1) e
+
+first-off : (rows more : List Row) → has 0 rows ≡ false → firstRefusal rows ≡ 0 → firstRefusal (rows ++ more) ≡ firstRefusal more
+unfolding firstRefusal
+first-off [] more h e = refl
+first-off (true gives k ∷ rows) more h e = impossible (cc (eqb-same 0, or-false (eqb k 0) (has 0 rows) h .0))
+first-off (false gives k ∷ rows) more h e = first-off rows more (or-false (eqb k 0) (has 0 rows) h .1) e
+
+module _ {rows more all : List Row} (f : Front rows more all) where
+  -- what the first rows give, all of them give
+  pub front-gives : {n : ℕ} → n ≡ firstRefusal rows → n ≢ 0 → n ≡ firstRefusal all
+  front-gives {n} e d = first-gives rows more n e d ∙ ap firstRefusal (sym (f .whole))
+
+  -- where all of them give none, the first do
+  pub front-none : firstRefusal all ≡ 0 → firstRefusal rows ≡ 0
+  front-none e = first-none rows more (ap firstRefusal (sym (f .whole)) ∙ e)
+
+  -- and so they do where all of them give a number that no first row has
+  pub front-skips : (n : ℕ) → has n rows ≡ false → firstRefusal all ≡ n → firstRefusal rows ≡ 0
+  front-skips n h e = first-skips n rows more h (ap firstRefusal (sym (f .whole)) ∙ e)
+
+  -- where the first give none, the others decide
+  pub others-decide : firstRefusal rows ≡ 0 → firstRefusal all ≡ firstRefusal more
+  others-decide e = ap firstRefusal (f .whole) ∙ first-off rows more (f .numbered) e

@@ -3,7 +3,7 @@ use Prim.Native.Nat.{ℕ, _*_, _-_, _/_, _≤_, _<_}
 use mathlib.Core.Path.{_≡_, sym, _∙_}
 use mathlib.Core.Logic.{_≢_}
 use mathlib.Core.Bool.{Bool, true, false}
-use mathlib.Core.List.{List, [], _∷_}
+use mathlib.Core.List.{List, []}
 use native.Mathlib.Omega.{arith}
 use borrow.Author.Needs.{needs}
 use borrow.Author.Tests.{lt-ltb, le-ltb}
@@ -12,17 +12,17 @@ use lib.ListN.{length}
 use lib.Ieee.{Float}
 use Rattle.rules.specs.Limits.{mostPoints}
 use Rattle.rules.specs.Grid.{pointsOf}
-use Rattle.rules.specs.Refusals.{_gives_, firstRefusal, equalNeighbours, outlineChecks, beforeCutting}
-use Rattle.rules.proofs.Rows.{row-on, row-off, no-rows, front-gives}
+use Rattle.rules.specs.Refusals.{firstRefusal, equalNeighbours, outlineChecks, beforeCutting}
+use Rattle.rules.proofs.Rows.{row-on, row-off, no-rows, front-gives, others-decide}
+use Rattle.rules.proofs.Fronts.{afterOutline, cutter-front}
 use Rattle.rules.proofs.Coordinates.{points-length}
-use Rattle.rules.proofs.Outlines.{Outlined, outlined, past-outline}
+use Rattle.rules.proofs.Outlines.{Outlined, outlined}
 use Rattle.ear_clipping.proofs.refusal.Statement.{statement}
 use Rattle.ear_clipping.proofs.refusal.Tie as tie
 
 module _ (cs : List Float) (room : ℕ) {n : ℕ} (first : n ≡ firstRefusal (outlineChecks 3 mostPoints cs)) where
   outline : n ≢ 0 → n ≡ firstRefusal (beforeCutting cs room)
-  unfolding beforeCutting
-  outline d = front-gives (outlineChecks 3 mostPoints cs) _ n first d
+  outline d = front-gives (cutter-front cs room) first d
 
   short-is : {t : Bool} → ltb room (3 * (length cs / 2 - 2)) ≡ t → ltb room (3 * (length (pointsOf cs) - 2)) ≡ t
   short-is e = rw (points-length cs) e
@@ -40,9 +40,8 @@ module _ (cs : List Float) (room : ℕ) {n : ℕ} (first : n ≡ firstRefusal (o
     small : length cs / 2 ≤ mostPoints
     small = omega (arith, facts .at-most, points-length cs)
 
-    rest-decides : firstRefusal (beforeCutting cs room) ≡ firstRefusal (equalNeighbours (pointsOf cs) gives 5 ∷ ltb room (3 * (length (pointsOf cs) - 2)) gives 6 ∷ [])
-    unfolding beforeCutting
-    rest-decides = past-outline 3 mostPoints cs _ (sym first ∙ none)
+    rest-decides : firstRefusal (beforeCutting cs room) ≡ firstRefusal (afterOutline cs room)
+    rest-decides = others-decide (cutter-front cs room) (sym first ∙ none)
 
     equal : equalNeighbours (pointsOf cs) ≡ true → 5 ≡ firstRefusal (beforeCutting cs room)
     equal e = sym (rest-decides ∙ row-on 5 _ e)

@@ -9,20 +9,18 @@ use borrow.Author.Needs.{needs}
 use borrow.Author.Tests.{eq-eqb, ne-eqb, lt-ltb, le-ltb}
 use Rattle.rules.specs.Limits.{mostPoints, mostTriangles}
 use Rattle.rules.specs.Refusals.{firstRefusal, outlineChecks, listChecks, beforeTriangles}
-use Rattle.rules.proofs.Rows.{row-on, row-off, no-rows, front-gives}
-use Rattle.rules.proofs.Outlines.{past-outline}
+use Rattle.rules.proofs.Rows.{row-on, row-off, no-rows, front-gives, others-decide}
+use Rattle.rules.proofs.Fronts.{list-front}
 use Rattle.hertel_mehlhorn.proofs.early_refusal.Statement.{statement}
 use Rattle.hertel_mehlhorn.proofs.early_refusal.Tie as tie
 
 module _ (cs : List Float) (t : ℕ) {n : ℕ} (first : n ≡ firstRefusal (outlineChecks 0 mostPoints cs)) where
   outline : n ≢ 0 → n ≡ firstRefusal (beforeTriangles cs t)
-  unfolding beforeTriangles
-  outline d = front-gives (outlineChecks 0 mostPoints cs) (listChecks t) n first d
+  outline d = front-gives (list-front cs t) first d
 
   module _ (none : n ≡ 0) where
     list-decides : firstRefusal (beforeTriangles cs t) ≡ firstRefusal (listChecks t)
-    unfolding beforeTriangles
-    list-decides = past-outline 0 mostPoints cs (listChecks t) (sym first ∙ none)
+    list-decides = others-decide (list-front cs t) (sym first ∙ none)
 
     ragged : t % 3 ≢ 0 → 8 ≡ firstRefusal (beforeTriangles cs t)
     unfolding listChecks

@@ -2,18 +2,17 @@
 use Prim.Native.Nat.{ℕ, _/_, _≤_, _<_}
 use mathlib.Core.Path.{_≡_, sym, _∙_}
 use mathlib.Core.Logic.{_≢_}
-use mathlib.Core.Bool.{Bool, true, false, _||_}
+use mathlib.Core.Bool.{Bool, true, false}
 use mathlib.Core.List.{List, [], _∷_}
-use lib.Dec.{ltb}
 use lib.ListN.{length}
 use lib.Ieee.{Float}
 use borrow.Author.Needs.{needs}
 use borrow.Author.Tests.{lt-ltb, le-ltb}
 use Rattle.rules.specs.Grid.{pointsOf}
 use Rattle.rules.specs.Refusals.{_gives_, firstRefusal, outOfRange, beforeTriangles, mergerChecks}
-use Rattle.rules.proofs.Rows.{row-on, row-off, no-rows, front-gives}
+use Rattle.rules.proofs.Rows.{row-on, row-off, no-rows, front-gives, others-decide}
+use Rattle.rules.proofs.Fronts.{shortRoom, ofTriangles, triangles-front}
 use Rattle.rules.proofs.Coordinates.{points-length}
-use Rattle.rules.proofs.Accepted.{range-decides}
 use Rattle.hertel_mehlhorn.proofs.refusal.Statement.{statement}
 use Rattle.hertel_mehlhorn.proofs.refusal.Tie as tie
 
@@ -21,17 +20,12 @@ module _ (cs : List Float) (tri : List ℕ) (room places : ℕ) {n : ℕ} (first
   abbrev rows : ℕ
   rows = firstRefusal (mergerChecks cs tri room places)
 
-  abbrev is-short : Bool
-  is-short = ltb room (length tri) || ltb places (length tri / 3)
-
   early : n ≢ 0 → n ≡ rows
-  unfolding mergerChecks
-  early d = front-gives (beforeTriangles cs (length tri)) _ n first d
+  early d = front-gives (triangles-front cs tri room places) first d
 
   module _ (none : n ≡ 0) where
-    rest-decides : rows ≡ firstRefusal (outOfRange (length (pointsOf cs)) tri gives 9 ∷ is-short gives 6 ∷ [])
-    unfolding mergerChecks
-    rest-decides = range-decides cs tri room places _ (sym first ∙ none)
+    rest-decides : rows ≡ firstRefusal (ofTriangles cs tri room places)
+    rest-decides = others-decide (triangles-front cs tri room places) (sym first ∙ none)
 
     range-is : {t : Bool} → outOfRange (length cs / 2) tri ≡ t → outOfRange (length (pointsOf cs)) tri ≡ t
     range-is e = rw (points-length cs) e
@@ -40,7 +34,7 @@ module _ (cs : List Float) (tri : List ℕ) (room places : ℕ) {n : ℕ} (first
     out e = sym (rest-decides ∙ row-on 9 _ (range-is e))
 
     module _ (within : outOfRange (length cs / 2) tri ≡ false) where
-      room-decides : rows ≡ firstRefusal (is-short gives 6 ∷ [])
+      room-decides : rows ≡ firstRefusal (shortRoom tri room places gives 6 ∷ [])
       room-decides = rest-decides ∙ row-off 9 _ (range-is within)
 
       short : room < length tri → 6 ≡ rows

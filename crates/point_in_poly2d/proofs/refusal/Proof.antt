@@ -10,20 +10,18 @@ use borrow.Author.Tests.{not-true, not-false}
 use Rattle.rules.specs.Limits.{mostPoints}
 use Rattle.rules.specs.Grid.{onGrid}
 use Rattle.rules.specs.Refusals.{_gives_, firstRefusal, offGrid, outlineChecks, pointTestChecks}
-use Rattle.rules.proofs.Rows.{row-on, row-off, no-rows, front-gives}
-use Rattle.rules.proofs.Outlines.{past-outline}
+use Rattle.rules.proofs.Rows.{row-on, row-off, no-rows, front-gives, others-decide}
+use Rattle.rules.proofs.Fronts.{asked-front}
 use Rattle.point_in_poly2d.proofs.refusal.Statement.{statement}
 use Rattle.point_in_poly2d.proofs.refusal.Tie as tie
 
 module _ (x y : Float) (cs : List Float) {n : ℕ} (first : n ≡ firstRefusal (outlineChecks 0 mostPoints cs)) where
   outline : n ≢ 0 → n ≡ firstRefusal (pointTestChecks x y cs)
-  unfolding pointTestChecks
-  outline d = front-gives (outlineChecks 0 mostPoints cs) _ n first d
+  outline d = front-gives (asked-front x y cs) first d
 
   module _ (none : n ≡ 0) where
     point-decides : firstRefusal (pointTestChecks x y cs) ≡ firstRefusal (offGrid (x ∷ y ∷ []) gives 4 ∷ [])
-    unfolding pointTestChecks
-    point-decides = past-outline 0 mostPoints cs _ (sym first ∙ none)
+    point-decides = others-decide (asked-front x y cs) (sym first ∙ none)
 
     x-off : onGrid x ≡ false → 4 ≡ firstRefusal (pointTestChecks x y cs)
     unfolding offGrid

@@ -8,20 +8,18 @@ use lib.ListN.{length}
 use lib.Ieee.{Float}
 use borrow.Author.Needs.{needs}
 use Rattle.rules.specs.Refusals.{_gives_, firstRefusal, offGrid, countChecks, outlineChecks}
-use Rattle.rules.proofs.Rows.{row-on, row-off, no-rows, front-gives}
-use Rattle.rules.proofs.Outlines.{past-count}
+use Rattle.rules.proofs.Rows.{row-on, row-off, no-rows, front-gives, others-decide}
+use Rattle.rules.proofs.Fronts.{count-front}
 use Rattle.grid.proofs.outline.outline_refusal.Statement.{statement}
 use Rattle.grid.proofs.outline.outline_refusal.Tie as tie
 
 module _ (least most : ℕ) (cs : List Float) {n : ℕ} (first : n ≡ firstRefusal (countChecks least most (length cs))) where
   counted : n ≢ 0 → n ≡ firstRefusal (outlineChecks least most cs)
-  unfolding outlineChecks
-  counted d = front-gives (countChecks least most (length cs)) (offGrid cs gives 4 ∷ []) n first d
+  counted d = front-gives (count-front least most cs) first d
 
   module _ (none : n ≡ 0) where
     grid-decides : firstRefusal (outlineChecks least most cs) ≡ firstRefusal (offGrid cs gives 4 ∷ [])
-    unfolding outlineChecks
-    grid-decides = past-count least most (length cs) (offGrid cs gives 4 ∷ []) (sym first ∙ none)
+    grid-decides = others-decide (count-front least most cs) (sym first ∙ none)
 
     off : offGrid cs ≡ true → 4 ≡ firstRefusal (outlineChecks least most cs)
     off e = sym (grid-decides ∙ row-on 4 [] e)
