@@ -42,6 +42,7 @@ record Final (ps : List Pt) (n : ℕ) (s : Vertices) (k left i : ℕ) : Type 0 w
   low : i < mostPoints
   room : k + 2 < mostIndices
 
+-- by the invariant: where a corner is picked, where none is, and behind the loop
 module _ (ps : List Pt) (n : ℕ) (triangles : List ℕ) (s : Vertices) (left k : ℕ) (inv : Inv ps n triangles s left k) (small : n ≤ mostPoints) where
   at-pick : {b : Pick} (i : ℕ) (v : Float) → b ≡ pickFrom (s .active) (s .ears) (s .pointiness) Nothing 0 n → b ≡ At i v → Turn n s k i v
   at-pick i v e f =
