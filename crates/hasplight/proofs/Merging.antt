@@ -1,37 +1,37 @@
 -- The merger's answer by the rooms alone, and its promise over the bytes.
-use Prim.Native.Nat.{ℕ, zero, suc, _+_, _*_, _/_, _%_, _≤_, _<_}
+use Prim.Native.Nat.{ℕ, zero, suc, _+_, _*_, _/_, _≤_, _<_}
 use mathlib.Core.Path.{_≡_, refl, sym, _∙_, ap, subst}
-use mathlib.Core.Bool.{Bool, true, false, cond, not}
+use mathlib.Core.Logic.{_≢_}
 use mathlib.Core.List.{List, [], _++_, map, append-assoc}
 use native.Mathlib.Omega.{arith}
-use borrow.Author.Tests.{lt-ltb, eqb-true}
-use lib.Dec.{ltb, eqb}
+use lib.Dec.{ltb}
 use lib.ListN.{length, take, drop, length-map, length-append, length-drop}
 use lib.Seq.{length-take-le, take-append-seam}
 use lib.Ieee.{Float}
+use Rattle.rules.specs.Limits.{mostPoints, mostIndices}
 use Rattle.rules.specs.Grid.{pointsOf}
-use Rattle.rules.specs.Merge.{merge}
+use Rattle.rules.specs.Merge.{mayJoin, merge}
 use Rattle.rules.specs.Layout.{flatten, split, triples, over}
-use Rattle.rules.specs.Refusals.{oddNumber, offGrid, firstRefusal, mergerChecks}
-use Rattle.rules.specs.Entries.{Merging, unless, merger, writtenPieces}
-use Rattle.rules.proofs.Rows.{row-on, row-off}
-use Rattle.rules.proofs.Coordinates.{many-on, many-off}
-use Rattle.rules.proofs.Layouts.{take-over, length-over, pieces-back}
-use Rattle.rules.proofs.Accepted.{in-range}
+use Rattle.rules.specs.Refusals.{firstRefusal, countChecks, beforeTriangles, mergerChecks}
+use Rattle.rules.specs.Entries.{Merging, merger, writtenPieces}
+use Rattle.rules.proofs.Rows.{front-gives, front-none, others-decide}
+use Rattle.rules.proofs.Fronts.{count-front, list-front, triangles-front}
+use Rattle.rules.proofs.Layouts.{length-over}
+use Rattle.rules.proofs.Answers.{merger-number, merger-answered, merger-none, merger-written}
+use Rattle.rules.proofs.Accepted.{whole-list, in-range}
 use Rattle.hertel_mehlhorn.specs.Promise.{Promise}
-use Rattle.hertel_mehlhorn.specs.declared.Answer as Inner
+use Rattle.entries.specs.declared.Answer.{Answer}
 use Rattle.words.specs.Bytes.{wordsOf, bytesOf}
 use Rattle.words.proofs.Words.{words-length}
-use Rattle.hasplight.specs.Promise.{tooMany, longList, cornersOf, leastOf, MergerGives}
-use Rattle.hasplight.specs.declared.Answer.{Answer}
-use Rattle.hasplight.proofs.Least.{many-number, many-refused, least-below, least-within, least-room}
+use Rattle.hasplight.specs.Promise.{cornersOf, leastOf, MergerGives}
+use Rattle.hasplight.proofs.Least.{least-below, least-within, least-room}
 use Rattle.hasplight.proofs.Sizes.{merged-corners, merged-count}
 
 -- ---- what is reported, by the number of the refusal
 
 module _ (cs : List Float) (tri : List ℕ) where
   abbrev pieces : List (List ℕ)
-  pieces = merge (pointsOf cs) (triples tri)
+  pieces = merge (mayJoin (pointsOf cs)) (triples tri)
 
   reported : ℕ → List (List ℕ)
   reported zero = pieces
@@ -39,15 +39,6 @@ module _ (cs : List Float) (tri : List ℕ) where
 
   abbrev number : List ℕ → List ℕ → ℕ
   number out lens = firstRefusal (mergerChecks cs tri (length out) (length lens))
-
-  answer-of : ℕ → List ℕ → List ℕ → Merging
-  answer-of n out lens =
-      unless n (λ n. record { number = n; count = 0; indices = out; lengths = lens })
-      (record { number = 0; count = length pieces; indices = over (flatten pieces) out; lengths = over (map length pieces) lens })
-
-  merger-is : (out lens : List ℕ) → merger cs tri out lens ≡ answer-of (number out lens) out lens
-  unfolding merger answer-of
-  merger-is out lens = refl
 
   -- everything that comes back, by the pieces
   record Says (r : Merging) (n : ℕ) (out lens : List ℕ) : Type 0 where
@@ -57,22 +48,31 @@ module _ (cs : List Float) (tri : List ℕ) where
     pub the-lengths : r .lengths ≡ over (map length (reported n)) lens
     pub the-pieces : writtenPieces r ≡ reported n
 
-  says : (n : ℕ) (out lens : List ℕ) → Says (answer-of n out lens) n out lens
-  unfolding answer-of reported flatten split
-  says zero out lens = record {
-    the-number = refl;
-    the-count = refl;
-    the-indices = refl;
-    the-lengths = refl;
-    the-pieces =
-        ap (λ (k : ℕ). split (take k (over (map length pieces) lens)) (over (flatten pieces) out)) (sym (length-map pieces length))
-        ∙ ap (λ (ls : List ℕ). split ls (over (flatten pieces) out)) (take-over (map length pieces) lens)
-        ∙ pieces-back pieces (drop (length (flatten pieces)) out);
-  }
-  says (suc n) out lens = record { the-number = refl; the-count = refl; the-indices = refl; the-lengths = refl; the-pieces = refl }
+  says : (n : ℕ) (out lens : List ℕ) → number out lens ≡ n → Says (merger cs tri out lens) n out lens
+  unfolding reported flatten split
+  says zero out lens e =
+      let ok = merger-number cs tri out lens ∙ e in
+      let is = merger-answered cs tri out lens ok in
+      record {
+        the-number = ok;
+        the-count = ap (λ (r : Merging). r .count) is;
+        the-indices = ap (λ (r : Merging). r .indices) is;
+        the-lengths = ap (λ (r : Merging). r .lengths) is;
+        the-pieces = merger-written cs tri out lens ok;
+      }
+  says (suc n) out lens e =
+      let is = merger-number cs tri out lens ∙ e in
+      let none = merger-none cs tri out lens (λ z. absurd (omega (arith, is))) in
+      record {
+        the-number = is;
+        the-count = none .0;
+        the-indices = none .1;
+        the-lengths = none .2;
+        the-pieces = ap (λ (n : ℕ). split (take n (merger cs tri out lens .lengths)) (merger cs tri out lens .indices)) (none .0);
+      }
 
   merger-says : (out lens : List ℕ) → Says (merger cs tri out lens) (number out lens) out lens
-  merger-says out lens = rw (merger-is out lens) (says (number out lens) out lens)
+  merger-says out lens = says (number out lens) out lens refl
 
   -- it fits, and its size
   record Fits (n : ℕ) (room places : ℕ) : Type 0 where
@@ -84,8 +84,8 @@ module _ (cs : List Float) (tri : List ℕ) where
   unfolding reported flatten
   fitting zero room places e =
       let g = in-range cs tri room places e in
-      let k = merged-corners (pointsOf cs) tri in
-      let m = merged-count (pointsOf cs) tri in
+      let k = merged-corners (mayJoin (pointsOf cs)) tri in
+      let m = merged-count (mayJoin (pointsOf cs)) tri in
       record { corners-are = k; fits = omega (arith, k, m, g .fits, g .whole); fits-lengths = omega (arith, m, g .fits-lengths) }
   fitting (suc n) room places e = record { corners-are = refl; fits = omega arith; fits-lengths = omega arith }
 
@@ -103,43 +103,6 @@ corners-none (suc n) t count h = refl
 pub corners-some : (n t count : ℕ) → n ≡ 0 → t / 3 + 2 * count ≡ cornersOf n t count
 corners-some zero t count h = refl
 corners-some (suc n) t count h = absurd (omega arith)
-
--- ---- early refusals
-
-module _ (cs : List Float) (tri : List ℕ) (room places : ℕ) where
-  abbrev rows : ℕ
-  rows = firstRefusal (mergerChecks cs tri room places)
-
-  -- more than 1024 coordinates
-  many-refusal : (n : ℕ) → n ≡ length cs → 1024 < n → rows ≡ tooMany n
-  unfolding mergerChecks
-  many-refusal n l h = many-number cs _ n l h (λ k. row-on 3 _ (many-on cs k))
-
-  -- at most 1024, and more than 1530 indices
-  long-number : (t : ℕ) → length cs ≤ 1024 → t ≡ length tri → 1530 < t → rows ≡ longList cs t
-  unfolding mergerChecks
-  long-number t few l h = odd (oddNumber cs) refl
-    where
-      ragged : (w : Bool) → eqb (t % 3) 0 ≡ w → firstRefusal (drop 3 (mergerChecks cs tri room places)) ≡ cond w 10 8
-      ragged true e = row-off 8 _ (ap not (ap (λ (k : ℕ). eqb (k % 3) 0) (sym l) ∙ e)) ∙ row-on 10 _ (lt-ltb 510 (length tri / 3) (omega (arith, eqb-true (t % 3) 0 e)))
-      ragged false e = row-on 8 _ (ap not (ap (λ (k : ℕ). eqb (k % 3) 0) (sym l) ∙ e))
-
-      off : (o : Bool) → offGrid cs ≡ o → firstRefusal (drop 2 (mergerChecks cs tri room places)) ≡ cond o 4 (cond (eqb (t % 3) 0) 10 8)
-      off true e = row-on 4 _ e
-      off false e = row-off 4 _ e ∙ ragged (eqb (t % 3) 0) refl
-
-      odd : (o : Bool) → oddNumber cs ≡ o → rows ≡ cond o 1 (cond (offGrid cs) 4 (cond (eqb (t % 3) 0) 10 8))
-      odd true e = row-on 1 _ e
-      odd false e = row-off 1 _ e ∙ row-off 3 _ (many-off cs (omega arith)) ∙ off (offGrid cs) refl
-
-long-refused : (cs : List Float) (t : ℕ) → (k : ℕ) × (longList cs t ≡ suc k)
-long-refused cs t = go (oddNumber cs) (offGrid cs) (eqb (t % 3) 0)
-  where
-    go : (a b d : Bool) → (k : ℕ) × (cond a 1 (cond b 4 (cond d 10 8)) ≡ suc k)
-    go true b d = (0, refl)
-    go false true d = (3, refl)
-    go false false true = (9, refl)
-    go false false false = (7, refl)
 
 -- ---- the promise over the bytes
 
@@ -159,100 +122,125 @@ module _ (cs : List Float) (tri indices lengths : List ℕ) where
         length-bytes = h ∙ ap (λ (ps : List (List ℕ)). over (bytesOf (map length ps)) lengths) (sym (s .the-pieces));
       }
 
-  refused : (n k : ℕ) → n ≡ given-number → n ≡ suc k → MergerGives cs tri indices lengths (record { number = n; count = 0 }) indices lengths
-  unfolding reported flatten bytesOf
-  refused n k e f =
-      let none : reported cs tri given-number ≡ [] = ap (reported cs tri) (sym e ∙ f) in
+  none-reported : (n : ℕ) → n ≢ 0 → reported cs tri n ≡ []
+  unfolding reported
+  none-reported zero d = absurd (d refl)
+  none-reported (suc n) d = refl
+
+  refused : (n : ℕ) → n ≡ given-number → n ≢ 0 → MergerGives cs tri indices lengths (record { number = n; count = 0 }) indices lengths
+  unfolding flatten bytesOf
+  refused n e d =
+      let none : reported cs tri given-number ≡ [] = ap (reported cs tri) (sym e) ∙ none-reported n d in
       kept (record { number = n; count = 0 }) indices lengths e (sym (ap length none)) (sym (ap (λ (ps : List (List ℕ)). over (bytesOf (flatten ps)) indices) none)) (sym (ap (λ (ps : List (List ℕ)). over (bytesOf (map length ps)) lengths) none))
 
-  pub refused-many : (n t : ℕ) → n ≡ length cs → 1024 < n → t ≡ tooMany n → MergerGives cs tri indices lengths (record { number = t; count = 0 }) indices lengths
-  refused-many n t l h e =
-      let k = many-refused n in
-      refused t (k .0) (e ∙ sym (many-refusal cs tri (length (wordsOf indices)) (length (wordsOf lengths)) n l h)) (e ∙ k .1)
+  before-triangles : {n : ℕ} → n ≡ firstRefusal (beforeTriangles cs (length tri)) → n ≢ 0 → MergerGives cs tri indices lengths (record { number = n; count = 0 }) indices lengths
+  before-triangles {n} e d = refused n (front-gives (triangles-front cs tri (length (wordsOf indices)) (length (wordsOf lengths))) e d) d
 
+  -- what the number of coordinates decides
+  pub refused-count : (n : ℕ) → n ≡ firstRefusal (countChecks 0 mostPoints (length cs)) → n ≢ 0 → MergerGives cs tri indices lengths (record { number = n; count = 0 }) indices lengths
+  refused-count n e d = before-triangles (front-gives (list-front cs (length tri)) (front-gives (count-front 0 mostPoints cs) e d) d) d
+
+  -- more indices than the most triangles have
   pub refused-long :
-      (fs : List Float) (t r : ℕ) → fs ≡ cs → length cs ≤ 1024 → t ≡ length tri → 1530 < t → r ≡ longList fs t → MergerGives cs tri indices lengths (record { number = r; count = 0 }) indices lengths
-  refused-long fs t r same few m k e =
-      let s = long-refused cs t in
-      let q : r ≡ longList cs t = e ∙ ap (λ (l : List Float). longList l t) same in
-      refused r (s .0) (q ∙ sym (long-number cs tri (length (wordsOf indices)) (length (wordsOf lengths)) t few m k)) (q ∙ s .1)
+      (fs : List Float) (t n : ℕ) → fs ≡ cs → t ≡ length tri → mostIndices < t → n ≡ firstRefusal (beforeTriangles fs t)
+      → MergerGives cs tri indices lengths (record { number = n; count = 0 }) indices lengths
+  refused-long fs t n same m long e =
+      let is : n ≡ firstRefusal (beforeTriangles cs (length tri)) = rw (m, same) at e in
+      before-triangles is (λ z. too-long (sym is ∙ z))
+    where
+      too-long : firstRefusal (beforeTriangles cs (length tri)) ≡ 0 → ⊥
+      too-long z =
+          let first = front-none (list-front cs (length tri)) z in
+          let l = whole-list (length tri) (sym (others-decide (list-front cs (length tri)) first) ∙ z) in
+          omega (arith, l .0, l .1, m, long)
 
-  -- the merger is lent the first words of two rooms of 1530
-  module _
-      (out sizes : List ℕ) {t room places : ℕ} (a : Inner.Answer) (after after-lengths : List ℕ) (m : t ≡ length tri) (few : t ≤ 1530) (r : room ≡ leastOf (length indices / 4))
-      (q : places ≡ leastOf (length lengths / 4)) (w : length out ≡ 1530) (v : length sizes ≡ 1530) (p : Promise cs tri (take room out) (take places sizes) a after after-lengths) where
-    abbrev lent : List ℕ
-    lent = take room out
+-- the merger is lent the first words of two rooms of the most indices
+pub record Lent (cs : List Float) (tri indices lengths out sizes : List ℕ) (room places : ℕ) (a : Answer) (after after-lengths : List ℕ) : Type 0 where
+  pub few : length tri ≤ mostIndices
+  pub room-is : room ≡ leastOf (length indices / 4)
+  pub places-is : places ≡ leastOf (length lengths / 4)
+  pub out-size : length out ≡ mostIndices
+  pub sizes-size : length sizes ≡ mostIndices
+  pub promise : Promise cs tri (take room out) (take places sizes) a after after-lengths
 
-    abbrev lent-lengths : List ℕ
-    lent-lengths = take places sizes
+module _ {cs : List Float} {tri indices lengths out sizes : List ℕ} {room places : ℕ} {a : Answer} {after after-lengths : List ℕ}
+    (l : Lent cs tri indices lengths out sizes room places a after after-lengths) where
+  open Lent l using (few, room-is, places-is, out-size, sizes-size, promise)
 
-    abbrev R : List (List ℕ)
-    R = reported cs tri given-number
+  abbrev lent : List ℕ
+  lent = take room out
 
-    lent-is : length lent ≡ room
-    lent-is = length-take-le room out (omega (arith, least-below (length indices / 4)))
+  abbrev lent-lengths : List ℕ
+  lent-lengths = take places sizes
 
-    places-are : length lent-lengths ≡ places
-    places-are = length-take-le places sizes (omega (arith, least-below (length lengths / 4)))
+  abbrev given : ℕ
+  given = given-number cs tri indices lengths
 
-    same-number : number cs tri lent lent-lengths ≡ given-number
-    unfolding mergerChecks
-    same-number =
-        let x : ltb (length lent) (length tri) ≡ ltb (length (wordsOf indices)) (length tri) =
-        rw (lent-is, r, words-length indices) (least-room (length indices / 4) (length tri) (omega arith)) in
-        let y : ltb (length lent-lengths) (length tri / 3) ≡ ltb (length (wordsOf lengths)) (length tri / 3) =
-        rw (places-are, q, words-length lengths) (least-room (length lengths / 4) (length tri / 3) (omega arith)) in
-        rw (x, y)
+  abbrev R : List (List ℕ)
+  R = reported cs tri given
 
-    inner : Says cs tri (merger cs tri lent lent-lengths) given-number lent lent-lengths
-    inner = subst (λ (n : ℕ). Says cs tri (merger cs tri lent lent-lengths) n lent lent-lengths) same-number (merger-says cs tri lent lent-lengths)
+  lent-is : length lent ≡ room
+  lent-is = length-take-le room out (omega (arith, least-below (length indices / 4)))
 
-    fit : Fits cs tri given-number (length lent) (length lent-lengths)
-    fit = fitting cs tri given-number (length lent) (length lent-lengths) same-number
+  places-are : length lent-lengths ≡ places
+  places-are = length-take-le places sizes (omega (arith, least-below (length lengths / 4)))
 
-    number-is : a .number ≡ given-number
-    number-is = p .number ∙ inner .the-number
+  same-number : number cs tri lent lent-lengths ≡ given
+  unfolding mergerChecks
+  same-number =
+      let x : ltb (length lent) (length tri) ≡ ltb (length (wordsOf indices)) (length tri) =
+      rw (lent-is, room-is, words-length indices) (least-room (length indices / 4) (length tri) (omega arith)) in
+      let y : ltb (length lent-lengths) (length tri / 3) ≡ ltb (length (wordsOf lengths)) (length tri / 3) =
+      rw (places-are, places-is, words-length lengths) (least-room (length lengths / 4) (length tri / 3) (omega arith)) in
+      rw (x, y)
 
-    count-is : a .count ≡ length R
-    count-is = p .count ∙ inner .the-count
+  inner : Says cs tri (merger cs tri lent lent-lengths) given lent lent-lengths
+  inner = subst (λ (n : ℕ). Says cs tri (merger cs tri lent lent-lengths) n lent lent-lengths) same-number (merger-says cs tri lent lent-lengths)
 
-    after-is : after ≡ over (flatten R) lent
-    after-is = p .indices-are ∙ inner .the-indices
+  fit : Fits cs tri given (length lent) (length lent-lengths)
+  fit = fitting cs tri given (length lent) (length lent-lengths) same-number
 
-    lengths-are : after-lengths ≡ over (map length R) lent-lengths
-    lengths-are = p .lengths-are ∙ inner .the-lengths
+  number-is : a .number ≡ given
+  number-is = promise .number ∙ inner .the-number
 
-    corners-kept : (k : ℕ) → k ≡ cornersOf (a .number) t (a .count) → k ≡ length (flatten R)
-    corners-kept k e = e ∙ rw (number-is, count-is, m) (sym (fit .corners-are))
+  count-is : a .count ≡ length R
+  count-is = promise .count ∙ inner .the-count
 
-    pub out-kept : 1530 ≡ length (after ++ drop room out)
-    out-kept =
-        sym (length-append after (drop room out) ∙ omega (arith, ap length after-is, length-over (flatten R) lent (fit .fits), lent-is, length-drop room out, least-below (length indices / 4)))
+  after-is : after ≡ over (flatten R) lent
+  after-is = promise .indices-are ∙ inner .the-indices
 
-    pub sizes-kept : 1530 ≡ length (after-lengths ++ drop places sizes)
-    sizes-kept =
-        sym (length-append after-lengths (drop places sizes)
-        ∙ omega (arith, ap length lengths-are, length-over (map length R) lent-lengths (rw (length-map R length) (fit .fits-lengths)), places-are, length-drop places sizes, least-below (length lengths / 4)))
+  lengths-are : after-lengths ≡ over (map length R) lent-lengths
+  lengths-are = promise .lengths-are ∙ inner .the-lengths
 
-    pub corners-fit : (k : ℕ) → k ≡ cornersOf (a .number) t (a .count) → (k ≤ length (after ++ drop room out)) × (k * 4 ≤ length indices)
-    corners-fit k e =
-        let c = corners-kept k e in
-        (omega (arith, out-kept, c, fit .fits, lent-is, least-below (length indices / 4)), omega (arith, c, fit .fits, lent-is, least-within (length indices / 4)))
+  corners-kept : (k : ℕ) → k ≡ cornersOf (a .number) (length tri) (a .count) → k ≡ length (flatten R)
+  corners-kept k e = e ∙ rw (number-is, count-is) (sym (fit .corners-are))
 
-    pub lengths-fit : (a .count ≤ length (after-lengths ++ drop places sizes)) × (a .count * 4 ≤ length lengths)
-    lengths-fit =
-        (omega (arith, sizes-kept, count-is, fit .fits-lengths, places-are, least-below (length lengths / 4)), omega (arith, count-is, fit .fits-lengths, places-are, least-within (length lengths / 4)))
+  pub out-kept : mostIndices ≡ length (after ++ drop room out)
+  out-kept =
+      sym (length-append after (drop room out) ∙ omega (arith, ap length after-is, length-over (flatten R) lent (fit .fits), lent-is, length-drop room out, least-below (length indices / 4)))
 
-    pub merge-kept :
-        (k : ℕ) {indices' lengths' : List ℕ} → k ≡ cornersOf (a .number) t (a .count) → indices' ≡ over (bytesOf (take k (after ++ drop room out))) indices
-        → lengths' ≡ over (bytesOf (take (a .count) (after-lengths ++ drop places sizes))) lengths
-        → MergerGives cs tri indices lengths (record { number = a .number; count = a .count }) indices' lengths'
-    merge-kept k e b d =
-        let front : take k (after ++ drop room out) ≡ flatten R = rw (corners-kept k e, after-is) (front-back (flatten R) lent (drop room out)) in
-        let lens : take (a .count) (after-lengths ++ drop places sizes) ≡ map length R =
-        rw (count-is ∙ sym (length-map R length), lengths-are) (front-back (map length R) lent-lengths (drop places sizes)) in
-        kept (record { number = a .number; count = a .count }) _ _ number-is count-is (b ∙ ap (λ (ws : List ℕ). over (bytesOf ws) indices) front) (d ∙ ap (λ (ws : List ℕ). over (bytesOf ws) lengths) lens)
+  pub sizes-kept : mostIndices ≡ length (after-lengths ++ drop places sizes)
+  sizes-kept =
+      sym (length-append after-lengths (drop places sizes)
+      ∙ omega (arith, ap length lengths-are, length-over (map length R) lent-lengths (rw (length-map R length) (fit .fits-lengths)), places-are, length-drop places sizes, least-below (length lengths / 4)))
+
+  pub corners-fit : (k : ℕ) → k ≡ cornersOf (a .number) (length tri) (a .count) → (k ≤ length (after ++ drop room out)) × (k * 4 ≤ length indices)
+  corners-fit k e =
+      let c = corners-kept k e in
+      (omega (arith, out-kept, c, fit .fits, lent-is, least-below (length indices / 4)), omega (arith, c, fit .fits, lent-is, least-within (length indices / 4)))
+
+  pub lengths-fit : (n : ℕ) → n ≡ a .count → (n ≤ length (after-lengths ++ drop places sizes)) × (n * 4 ≤ length lengths)
+  lengths-fit n e =
+      (omega (arith, sizes-kept, count-is, fit .fits-lengths, places-are, least-below (length lengths / 4)), omega (arith, count-is, fit .fits-lengths, places-are, least-within (length lengths / 4)))
+
+  pub merge-kept :
+      (k n : ℕ) {indices' lengths' : List ℕ} → k ≡ cornersOf (a .number) (length tri) (a .count) → n ≡ a .count → indices' ≡ over (bytesOf (take k (after ++ drop room out))) indices
+      → lengths' ≡ over (bytesOf (take n (after-lengths ++ drop places sizes))) lengths → MergerGives cs tri indices lengths a indices' lengths'
+  merge-kept k n e f b d =
+      let front : take k (after ++ drop room out) ≡ flatten R = rw (corners-kept k e, after-is) (front-back (flatten R) lent (drop room out)) in
+      let lens : take n (after-lengths ++ drop places sizes) ≡ map length R =
+      rw (f ∙ count-is ∙ sym (length-map R length), lengths-are) (front-back (map length R) lent-lengths (drop places sizes)) in
+      kept cs tri indices lengths a _ _ number-is count-is (b ∙ ap (λ (ws : List ℕ). over (bytesOf ws) indices) front) (d ∙ ap (λ (ws : List ℕ). over (bytesOf ws) lengths) lens)
 
 pub merge-read :
     (cs fs : List Float) (tri ws indices lengths : List ℕ) (r : Answer) (indices' lengths' : List ℕ) → fs ≡ cs → ws ≡ tri → MergerGives fs ws indices lengths r indices' lengths'

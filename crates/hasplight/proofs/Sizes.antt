@@ -7,8 +7,7 @@ use lib.Dec.{lit≤}
 use lib.ListN.{length, length-append}
 use Rattle.algebra.specs.Lists.{Each, end, _&_}
 use Rattle.algebra.specs.Sums.{total, naturals}
-use Rattle.rules.specs.Plane.{Pt}
-use Rattle.rules.specs.Merge.{merge}
+use Rattle.rules.specs.Merge.{JoinTest, merge}
 use Rattle.rules.specs.Layout.{flatten, triples}
 use Rattle.rules.proofs.Pieces.{merging}
 
@@ -34,15 +33,15 @@ triples-beyond (a ∷ []) = refl
 triples-beyond (a ∷ b ∷ []) = refl
 triples-beyond (a ∷ b ∷ c ∷ l) = omega (arith, triples-beyond l)
 
-module _ (ps : List Pt) (l : List ℕ) where
-  pub merged-corners : length (flatten (merge ps (triples l))) ≡ length l / 3 + 2 * length (merge ps (triples l))
+module _ (may : JoinTest) (l : List ℕ) where
+  pub merged-corners : length (flatten (merge may (triples l))) ≡ length l / 3 + 2 * length (merge may (triples l))
   merged-corners =
-      let m = merging ps (triples l) in
-      let s = sizes (merge ps (triples l)) (m .three (triples-three l)) in
+      let m = merging may (triples l) in
+      let s = sizes (merge may (triples l)) (m .three (triples-three l)) in
       omega (arith, s .0, m .size, triples-beyond l)
 
-  pub merged-count : length (merge ps (triples l)) ≤ length l / 3
+  pub merged-count : length (merge may (triples l)) ≤ length l / 3
   merged-count =
-      let m = merging ps (triples l) in
-      let s = sizes (merge ps (triples l)) (m .three (triples-three l)) in
+      let m = merging may (triples l) in
+      let s = sizes (merge may (triples l)) (m .three (triples-three l)) in
       omega (arith, s .1, m .size, triples-beyond l)

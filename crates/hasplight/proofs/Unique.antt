@@ -10,11 +10,9 @@ use Rattle.rules.specs.Layout.{over}
 use Rattle.rules.specs.Entries.{cutter}
 use Rattle.words.specs.Bytes.{wordsOf, floatsOf, bytesOf}
 use Rattle.hasplight.specs.Promise.{CutterPromise, MergerPromise, PointPromise}
-use Rattle.hasplight.specs.declared.Answer.{Answer}
+use Rattle.entries.specs.declared.Answer.{Answer}
+use Rattle.entries.proofs.Answers.{answers-equal}
 use Rattle.hasplight.specs.declared.Verdict.{Verdict}
-
-answers-equal : (r s : Answer) → r .number ≡ s .number → r .count ≡ s .count → r ≡ s
-answers-equal r s e f = λ i. record { number = e i; count = f i }
 
 pub cutter-unique :
     (coords indices : List ℕ) (r s : Answer) (indices₁ indices₂ : List ℕ) → CutterPromise coords indices r indices₁ → CutterPromise coords indices s indices₂

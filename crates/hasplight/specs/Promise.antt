@@ -1,31 +1,23 @@
 -- What the exported entries promise over the bytes, on any input: numbers, counts and answers are those that the rules give for the
 -- words, what is reported is written to the front of the lent bytes, and all other bytes keep their contents.
-use Prim.Native.Nat.{ℕ, zero, suc, _+_, _*_, _/_, _%_}
+use Prim.Native.Nat.{ℕ, zero, suc, _+_, _*_, _/_}
 use mathlib.Core.Path.{_≡_}
-use mathlib.Core.Bool.{Bool, cond}
+use mathlib.Core.Bool.{Bool, false, cond}
 use mathlib.Core.List.{List, map}
-use lib.Dec.{eqb, ltb}
+use lib.Dec.{ltb}
 use lib.ListN.{length, take}
 use lib.Ieee.{Float}
+use Rattle.rules.specs.Limits.{mostIndices}
 use Rattle.rules.specs.Plane.{Pt}
 use Rattle.rules.specs.Layout.{flatten, over}
-use Rattle.rules.specs.Refusals.{oddNumber, offGrid}
 use Rattle.rules.specs.Entries.{cutter, merger, asking, writtenPieces}
 use Rattle.words.specs.Bytes.{wordsOf, floatsOf, bytesOf}
-use Rattle.hasplight.specs.declared.Answer.{Answer}
+use Rattle.entries.specs.declared.Answer.{Answer}
 use Rattle.hasplight.specs.declared.Verdict.{Verdict}
 
--- the refusal of n coordinates, more than 1024
-abbrev pub tooMany : ℕ → ℕ
-tooMany n = cond (eqb (n % 2) 1) 1 3
-
--- the refusal of at most 1024 coordinates and t indices, more than 1530
-abbrev pub longList : List Float → ℕ → ℕ
-longList cs t = cond (oddNumber cs) 1 (cond (offGrid cs) 4 (cond (eqb (t % 3) 0) 10 8))
-
--- n, or 1530 where it is more
+-- n, or the most that is ever asked for where it is more
 abbrev pub leastOf : ℕ → ℕ
-leastOf n = cond (ltb n 1530) n 1530
+leastOf n = cond (ltb n mostIndices) n mostIndices
 
 -- the number of indices in the pieces that t indices were merged to: each piece has two corners more than it has triangles
 abbrev pub cornersOf : ℕ → ℕ → ℕ → ℕ
@@ -53,8 +45,8 @@ MergerPromise coords triangles = MergerGives (floatsOf coords) (wordsOf triangle
 
 -- what a point test gives back for these coordinates
 pub record PointGives (test : Pt → List Pt → Bool) (x y : Float) (cs : List Float) (r : Verdict) : Type 0 where
-  pub number : r .number ≡ asking test x y cs .number
-  pub answer : r .answer ≡ cond (asking test x y cs .answer) 1 0
+  pub number : r .number ≡ asking false test x y cs .number
+  pub answer : r .answer ≡ cond (asking false test x y cs .answer) 1 0
 
 abbrev pub PointPromise : (Pt → List Pt → Bool) → Float → Float → List ℕ → Verdict → Type 0
 PointPromise test x y coords = PointGives test x y (floatsOf coords)

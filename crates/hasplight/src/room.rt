@@ -1,41 +1,33 @@
-// What the entries lend on to the jobs below them.
+// How much room the entries lend on, and how much of it was written.
+use entries::MOST_INDICES;
+use entries::wide;
 ghost use mathlib.Core.Path.{_≡_};
 ghost use Prim.Native.Nat.{_*_, _≤_};
-ghost use lib.ListN.{length};
-ghost use Rattle.hasplight.specs.Promise.{leastOf};
+ghost use Rattle.rules.specs.Limits.{mostIndices};
+ghost use Rattle.hasplight.specs.Promise.{leastOf, cornersOf};
 
-// Room for the coordinates of 64 points.
-pub fn few_floats() -> [f32; 128]
-    ensures { λ r. ⌜ length r ≡ 128 ⌝ }
-{
-    [0.0f32; 128]
-}
-
-// Room for the coordinates of 512 points.
-pub fn no_floats() -> [f32; 1024]
-    ensures { λ r. ⌜ length r ≡ 1024 ⌝ }
-{
-    [0.0f32; 1024]
-}
-
-// Room for words: three for each of at most 510 triangles.
-pub fn blank() -> [u32; 1530]
-    ensures { λ r. ⌜ length r ≡ 1530 ⌝ }
-{
-    [0u32; 1530]
-}
-
-// n, or 1530 where it is more.
+// n, or the most that is ever asked for where it is more.
 pub fn least(n: usize) -> usize
     ensures { λ r. ⌜ r ≡ leastOf n ⌝ }
-    ensures { λ r. ⌜ r ≤ 1530 ⌝ }
+    ensures { λ r. ⌜ r ≤ mostIndices ⌝ }
 {
-    if n < 1530 { n } else { 1530 }
+    if n < MOST_INDICES { n } else { MOST_INDICES }
 }
 
 // Three indices for each triangle.
 pub fn tripled(count: u32) -> usize
     ensures { λ r. ⌜ r ≡ 3 * count ⌝ }
 {
-    3 * (count as usize)
+    3 * wide(count)
+}
+
+// How many indices a merge of t indices has written: each piece has two corners more than it has triangles.
+pub fn corners(number: u32, t: usize, count: u32) -> usize
+    requires { ⌜ t ≤ mostIndices ⌝ }
+    ensures { λ r. ⌜ r ≡ cornersOf number t count ⌝ }
+{
+    if number != 0 {
+        return 0;
+    }
+    t / 3 + 2 * wide(count)
 }

@@ -127,25 +127,32 @@ pub record InRange (cs : List Float) (triangles : List ℕ) (room roomForLengths
   pub fits : length triangles ≤ room
   pub fits-lengths : length triangles / 3 ≤ roomForLengths
 
+-- what the number of indices leaves
+pub whole-list : (n : ℕ) → firstRefusal (listChecks n) ≡ 0 → (n % 3 ≡ 0) × (n / 3 ≤ mostTriangles)
+unfolding listChecks
+whole-list n e =
+    let (ragged, e₈) = passes (not (eqb (n % 3) 0)) 7 _ e in
+    let (most, e₁₀) = passes (ltb mostTriangles (n / 3)) 9 _ e₈ in
+    (eqb-true (n % 3) 0 (not-false (eqb (n % 3) 0) ragged), ltb-false mostTriangles (n / 3) most)
+
 module _ (cs : List Float) (triangles : List ℕ) (room roomForLengths : ℕ) where
   abbrev n : ℕ
   n = length triangles
 
   pub in-range : firstRefusal (mergerChecks cs triangles room roomForLengths) ≡ 0 → InRange cs triangles room roomForLengths
-  unfolding listChecks outOfRange
+  unfolding outOfRange
   in-range e =
       let points = length (pointsOf cs) in
       let none = front-none (triangles-front cs triangles room roomForLengths) e in
       let first = front-none (list-front cs n) none in
-      let (ragged, e₈) = passes (not (eqb (n % 3) 0)) 7 _ (sym (others-decide (list-front cs n) first) ∙ none) in
-      let (most, e₁₀) = passes (ltb mostTriangles (n / 3)) 9 _ e₈ in
+      let (whole, few) = whole-list n (sym (others-decide (list-front cs n) first) ∙ none) in
       let (out, e₉) = passes (outOfRange points triangles) 8 _ (sym (others-decide (triangles-front cs triangles room roomForLengths) none) ∙ e) in
       let (short, e₆) = passes (ltb room n || ltb roomForLengths (n / 3)) 5 _ e₉ in
       let (s, t) = or-false (ltb room n) (ltb roomForLengths (n / 3)) short in
       record {
         outlines = outlined 0 mostPoints cs first;
-        whole = eqb-true (n % 3) 0 (not-false (eqb (n % 3) 0) ragged);
-        few = ltb-false mostTriangles (n / 3) most;
+        whole = whole;
+        few = few;
         below = each-imp (λ i h. ltb-is-true i points (not-false (ltb i points) h)) (none-passes (λ i. not (ltb i points)) triangles out);
         fits = ltb-false room n s;
         fits-lengths = ltb-false roomForLengths (n / 3) t;

@@ -53,7 +53,11 @@ module _ (cs : List Float) (out : List ℕ) where
   unfolding cutter
   cutter-refused d = unless-refused _ _ (λ e. d (cutter-number ∙ e)) ∙ ap (λ n. record { number = n; count = 0; indices = out }) (sym cutter-number)
 
-  three-each : length (flatten triangles) ≡ 3 * length triangles
+  -- a refused call reports no triangle and leaves every lent index as it was
+  pub cutter-none : cutter cs out .number ≢ 0 → (cutter cs out .count ≡ 0) × (cutter cs out .indices ≡ out)
+  cutter-none d = (ap (λ (r : Cutting). r .count) (cutter-refused d), ap (λ (r : Cutting). r .indices) (cutter-refused d))
+
+  pub three-each : length (flatten triangles) ≡ 3 * length triangles
   unfolding trianglesFor
   three-each = let ts = trianglesOf (cut (pointsOf cs)) in triangles-length ts ∙ ap (λ (n : ℕ). 3 * n) (sym (length-map ts ringOf))
 
@@ -65,6 +69,7 @@ module _ (cs : List Float) (out : List ℕ) where
   unfolding trianglesFor
   cutter-written e = ap triples (cutter-indices e) ∙ triangles-back (trianglesOf (cut (pointsOf cs)))
 
+  -- after 0, what lies beyond the reported triangles keeps its contents
   pub cutter-beyond : cutter cs out .number ≡ 0 → drop (3 * cutter cs out .count) (cutter cs out .indices) ≡ drop (3 * cutter cs out .count) out
   cutter-beyond e = rw (cutter-answered e, ← three-each) (over-beyond (flatten triangles) out)
 
@@ -86,11 +91,18 @@ module _ (cs : List Float) (triangles out lens : List ℕ) where
   unfolding merger
   merger-refused d = unless-refused _ _ (λ e. d (merger-number ∙ e)) ∙ ap (λ n. record { number = n; count = 0; indices = out; lengths = lens }) (sym merger-number)
 
+  -- a refused call reports no piece and leaves every lent index and length as it was
+  pub merger-none : merger cs triangles out lens .number ≢ 0 → (merger cs triangles out lens .count ≡ 0) × (merger cs triangles out lens .indices ≡ out) × (merger cs triangles out lens .lengths ≡ lens)
+  merger-none d =
+      let e = merger-refused d in
+      (ap (λ (r : Merging). r .count) e, ap (λ (r : Merging). r .indices) e, ap (λ (r : Merging). r .lengths) e)
+
   pub merger-written : merger cs triangles out lens .number ≡ 0 → writtenPieces (merger cs triangles out lens) ≡ pieces
   merger-written e =
       let n : length pieces ≡ length (map length pieces) = sym (length-map pieces length) in
       rw (merger-answered e, n, take-over (map length pieces) lens) (pieces-back pieces (drop (length (flatten pieces)) out))
 
+  -- after 0, what lies beyond the reported pieces keeps its contents
   abbrev corners : ℕ
   corners = length (flatten (writtenPieces (merger cs triangles out lens)))
 
@@ -116,3 +128,7 @@ module _ {A : Type 0} (no-answer : A) (test : Pt → List Pt → A) (x y : Float
   pub asking-refused : asking no-answer test x y cs .number ≢ 0 → asking no-answer test x y cs ≡ record { number = asking no-answer test x y cs .number; answer = no-answer }
   unfolding asking
   asking-refused d = unless-refused _ _ (λ e. d (asking-number ∙ e)) ∙ ap (λ n. record { number = n; answer = no-answer }) (sym asking-number)
+
+  -- a refused question is answered with "no"
+  pub asking-none : asking no-answer test x y cs .number ≢ 0 → asking no-answer test x y cs .answer ≡ no-answer
+  asking-none d = ap (λ (r : Asking A). r .answer) (asking-refused d)

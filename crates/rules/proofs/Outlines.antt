@@ -1,10 +1,10 @@
 -- What the rows of an outline leave where none applies, and that none applies where that is left.
-use Prim.Native.Nat.{ℕ, _/_, _%_, _≤_}
+use Prim.Native.Nat.{ℕ, _*_, _/_, _%_, _≤_}
 use mathlib.Core.Path.{_≡_, sym, _∙_}
 use mathlib.Core.Bool.{false}
 use mathlib.Core.List.{List, []}
 use native.Mathlib.Omega.{arith}
-use borrow.Author.Tests.{le-ltb}
+use borrow.Author.Tests.{le-ltb, eqb-false}
 use lib.Dec.{eqb, ltb}
 use lib.ListN.{length}
 use lib.Ieee.{Float}
@@ -29,6 +29,13 @@ counted least most n e₀ =
     let (few, e₂) = passes (ltb (n / 2) least) 1 _ e₁ in
     let (many, e₃) = passes (ltb most (n / 2)) 2 _ e₂ in
     record { even = odd; at-least = ltb-false (n / 2) least few; at-most = ltb-false most (n / 2) many }
+
+-- two coordinates a point
+pub counted-most : (least most n : ℕ) {number : ℕ} → number ≡ firstRefusal (countChecks least most n) → number ≡ 0 → n ≤ 2 * most
+counted-most least most n e z =
+    let c = counted least most n (sym e ∙ z) in
+    let even : n % 2 ≡ 1 → ⊥ = eqb-false (n % 2) 1 (c .even) in
+    omega (arith, c .at-most)
 
 count-none : {least most n : ℕ} → Counted least most n → firstRefusal (countChecks least most n) ≡ 0
 unfolding countChecks

@@ -11,39 +11,60 @@ use Rattle.hasplight.proofs.cut.Tie as tie
 least-requires : tie.Need-least-requires
 least-requires c κs = search needs
 
-blank-requires : tie.Need-blank-requires
-blank-requires c κs = search needs
+zeros-requires : tie.Need-zeros-requires
+zeros-requires c κs = search needs
 
 array-borrow-prefix-out : tie.Need-array-borrow-prefix-out
 array-borrow-prefix-out c = search needs
 
 slice-aggregate-triangulate-ear-clipping : tie.Need-slice-aggregate-triangulate-ear-clipping
-slice-aggregate-triangulate-ear-clipping c = sym (length-take-le _ _ (omega (arith, c .before .before .least .ensures, c .before .blank .ensures)))
+slice-aggregate-triangulate-ear-clipping c =
+    let room = c .before .before in
+    sym (length-take-le _ _ (omega (arith, room .least .ensures, c .before .zeros .ensures .0)))
 
 triangulate-ear-clipping-requires : tie.Need-triangulate-ear-clipping-requires
 triangulate-ear-clipping-requires c κs = search needs
 
+-- what was lent to the cut, and the entry
+abbrev lent : tie.After-triangulate-ear-clipping → tie.After-least
+lent c = c .before .before .before
+
+abbrev start : tie.After-triangulate-ear-clipping → tie.Start
+start c = lent c .before .before .before
+
 slice-aggregate-write-words : tie.Need-slice-aggregate-write-words
-slice-aggregate-write-words c = words-kept _ (now (c .before .before .before .before .before .before .before .before .args .indices)) _ _ _ (c .before .before .before .before .before .before .before .before .pre) (c .before .before .before .before .before .least .ensures .0) (c .before .before .before .before .blank .ensures) (c .before .before .triangulate-ear-clipping .ensures)
+slice-aggregate-write-words c =
+    let m = c .before .before in
+    words-kept _ (now (start m .args .indices)) _ _ _ (start m .pre) (lent m .least .ensures .0) (m .before .before .zeros .ensures .0) (m .triangulate-ear-clipping .ensures)
 
 tripled-requires : tie.Need-tripled-requires
 tripled-requires c κs = search needs
 
+-- where the cut was made, from where its indices are counted
+abbrev made : tie.After-tripled → tie.After-triangulate-ear-clipping
+made c = c .before .before .before
+
 write-words-requires : tie.Need-write-words-requires
-write-words-requires c κs = cut-room _ (now (c .before .before .before .before .before .before .before .before .before .before .args .indices)) _ _ _ (c .before .before .before .before .before .before .before .before .before .before .pre) (c .before .before .before .before .before .before .before .least .ensures .0) (c .before .before .before .before .before .before .blank .ensures) (c .before .before .before .before .triangulate-ear-clipping .ensures) _ (c .before .tripled .ensures)
+write-words-requires c κs =
+    let m = made (c .before) in
+    cut-room _ (now (start m .args .indices)) _ _ _ (start m .pre) (lent m .least .ensures .0) (m .before .before .zeros .ensures .0) (m .triangulate-ear-clipping .ensures) _ (c .before .tripled .ensures)
 
 same-length : tie.Need-same-length
 same-length c = search needs
 
 returns : tie.Need-returns
-returns c = cut-kept _ (now (c .before .before .before .before .before .before .before .before .before .before .before .before .before .args .indices)) _ _ _ (c .before .before .before .before .before .before .before .before .before .before .before .before .before .pre) (c .before .before .before .before .before .before .before .before .before .before .least .ensures .0) (c .before .before .before .before .before .before .before .before .before .blank .ensures) (c .before .before .before .before .before .before .before .triangulate-ear-clipping .ensures) _ (c .before .before .before .before .tripled .ensures) (c .before .before .write-words .ensures)
+returns c =
+    let written = c .before .before in
+    let counted = written .before .before in
+    let m = made counted in
+    cut-kept _ (now (start m .args .indices)) _ _ _ (start m .pre) (lent m .least .ensures .0) (m .before .before .zeros .ensures .0) (m .triangulate-ear-clipping .ensures) _ (counted .tripled .ensures) (written .write-words .ensures)
 
 pub cut-spec : {M : Type 1} → statement M
 cut-spec =
     tie.close
     (tie.spec
     least-requires
-    blank-requires
+    zeros-requires
     array-borrow-prefix-out
     slice-aggregate-triangulate-ear-clipping
     triangulate-ear-clipping-requires

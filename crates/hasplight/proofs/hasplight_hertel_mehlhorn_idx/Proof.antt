@@ -1,18 +1,23 @@
 -- `hasplight_hertel_mehlhorn_idx` meets its promise.
-use native.Mathlib.Omega.{arith}
+use Prim.Native.Nat.{_/_, _≤_}
 use mathlib.Core.Path.{sym}
+use native.Mathlib.Omega.{arith}
+use lib.ListN.{length}
 use denote.Ref.{now}
-use Rattle.words.proofs.Words.{words-length, words-read, words-many, floats-length, floats-read, floats-many}
-use Rattle.hasplight.proofs.Merging.{refused-many, refused-long, merge-read}
+use Rattle.rules.specs.Limits.{mostPoints, mostCoordinates}
+use Rattle.rules.proofs.Outlines.{counted-most}
+use Rattle.words.proofs.Words.{words-length, words-read, words-many, floats-read, floats-many}
+use Rattle.hasplight.proofs.Counting.{counted-words}
+use Rattle.hasplight.proofs.Merging.{refused-count, refused-long, merge-read}
 use borrow.Author.Needs.{needs}
 use Rattle.hasplight.proofs.hasplight_hertel_mehlhorn_idx.Statement.{statement}
 use Rattle.hasplight.proofs.hasplight_hertel_mehlhorn_idx.Tie as tie
 
-too-many-requires : tie.Need-too-many-requires
-too-many-requires c κs = search needs
+count-refusal-requires : tie.Need-count-refusal-requires
+count-refusal-requires c κs = search needs
 
 returns : tie.Need-returns
-returns c = refused-many _ _ _ _ _ _ (sym (floats-length _)) (c .before .if1 .taken) (c .too-many .ensures)
+returns c = refused-count _ _ _ _ _ (counted-words 0 _ (c .before .count-refusal .ensures)) (c .if1 .taken)
 
 no-floats-requires : tie.Need-no-floats-requires
 no-floats-requires c κs = search needs
@@ -20,26 +25,40 @@ no-floats-requires c κs = search needs
 slice-aggregate-read-floats : tie.Need-slice-aggregate-read-floats
 slice-aggregate-read-floats c = search needs
 
+abbrev start : tie.After-count-refusal → tie.Start
+start c = let args = c .before .before in args .before .before .before
+
+-- where the number of coordinates is accepted
+most : (c : tie.Else1) → length (now (start (c .before) .args .coords)) / 4 ≤ mostCoordinates
+most c = counted-most 0 mostPoints _ (c .before .count-refusal .ensures) (c .if1 .left)
+
+-- that, from where the coordinates are read
+abbrev counted : tie.After-floats2 → tie.Else1
+counted c = let read = c .before in read .before .before .before
+
 read-floats-requires : tie.Need-read-floats-requires
-read-floats-requires c κs = search needs
+read-floats-requires c κs = omega (arith, c .before .no-floats .ensures, most (c .before .before))
 
 array-share-prefix-floats : tie.Need-array-share-prefix-floats
-array-share-prefix-floats c = search needs
+array-share-prefix-floats c =
+    let few = most (counted (c .before)) in
+    search needs
 
-slice-aggregate-long-list : tie.Need-slice-aggregate-long-list
-slice-aggregate-long-list c = floats-many _ _ _ (c .before .before .before .read-floats .ensures)
+slice-aggregate-early-refusal : tie.Need-slice-aggregate-early-refusal
+slice-aggregate-early-refusal c = floats-many _ _ _ (c .before .before .before .read-floats .ensures)
 
-long-list-requires : tie.Need-long-list-requires
-long-list-requires c κs = search needs
+early-refusal-requires : tie.Need-early-refusal-requires
+early-refusal-requires c κs = search needs
 
 returns-2 : tie.Need-returns-2
 returns-2 c =
-    let r = floats-read _ _ _ (c .before .before .before .before .read-floats .ensures) in
-    let s = c .before .before .before .before .before .before .before .before .before .before .before .before .args in
-    refused-long _ _ _ _ _ _ _ r (omega (arith, floats-length (now (s .coords)), c .before .before .before .before .before .before .before .if1 .left)) (sym (words-length (now (s .triangles)))) (c .before .before .if2 .taken) (c .long-list .ensures)
+    let long = c .before .before in
+    let floats = long .before in
+    let triangles = now (start (counted floats .before) .args .triangles) in
+    refused-long _ _ _ _ _ _ _ (floats-read _ _ _ (floats .before .read-floats .ensures)) (sym (words-length triangles)) (long .if2 .taken) (c .early-refusal .ensures)
 
-blank-requires : tie.Need-blank-requires
-blank-requires c κs = search needs
+zeros-requires : tie.Need-zeros-requires
+zeros-requires c κs = search needs
 
 slice-aggregate-read-words : tie.Need-slice-aggregate-read-words
 slice-aggregate-read-words c = search needs
@@ -47,20 +66,33 @@ slice-aggregate-read-words c = search needs
 read-words-requires : tie.Need-read-words-requires
 read-words-requires c κs = search needs
 
+-- where the number of indices is accepted, from where they are read
+abbrev fits : tie.After-read-words → tie.Else2
+fits c = c .before .before .before
+
 array-share-prefix-floats-2 : tie.Need-array-share-prefix-floats-2
-array-share-prefix-floats-2 c = search needs
+array-share-prefix-floats-2 c =
+    let few = most (counted (fits (c .before) .before)) in
+    search needs
 
 slice-aggregate-merge : tie.Need-slice-aggregate-merge
-slice-aggregate-merge c = floats-many _ _ _ (c .before .before .before .before .before .before .before .read-floats .ensures)
+slice-aggregate-merge c =
+    let floats = fits (c .before .before) .before in
+    floats-many _ _ _ (floats .before .read-floats .ensures)
 
 array-share-prefix-given : tie.Need-array-share-prefix-given
 array-share-prefix-given c = search needs
 
+abbrev words : tie.After-given3 → tie.After-read-words
+words c = c .before .before .before
+
 slice-aggregate-merge-2 : tie.Need-slice-aggregate-merge-2
-slice-aggregate-merge-2 c = words-many _ _ _ (c .before .before .before .read-words .ensures)
+slice-aggregate-merge-2 c = words-many _ _ _ (words c .read-words .ensures)
 
 merge-requires : tie.Need-merge-requires
-merge-requires c κs = omega (arith, words-many _ _ _ (c .before .before .before .before .before .read-words .ensures), c .before .before .before .before .before .before .before .before .if2 .left)
+merge-requires c κs =
+    let w = words (c .before .before) in
+    omega (arith, words-many _ _ _ (w .read-words .ensures), fits w .if2 .left)
 
 same-length : tie.Need-same-length
 same-length c = search needs
@@ -68,23 +100,31 @@ same-length c = search needs
 same-length-2 : tie.Need-same-length-2
 same-length-2 c = search needs
 
+-- where the merge was made
+abbrev made : tie.After-slice-known4 → tie.After-merge
+made c = let indices = c .before .before in indices .before .before
+
 returns-3 : tie.Need-returns-3
-returns-3 c = merge-read _ _ _ _ _ _ _ _ _ (floats-read _ _ _ (c .before .before .before .before .before .before .before .before .before .before .before .before .before .before .before .read-floats .ensures)) (words-read _ _ _ (c .before .before .before .before .before .before .before .before .before .before .read-words .ensures)) (c .before .before .before .before .merge .ensures)
+returns-3 c =
+    let m = made c in
+    let w = words (m .before .before .before) in
+    let floats = fits w .before in
+    merge-read _ _ _ _ _ _ _ _ _ (floats-read _ _ _ (floats .before .read-floats .ensures)) (words-read _ _ _ (w .read-words .ensures)) (m .merge .ensures)
 
 pub hasplight-hertel-mehlhorn-idx-spec : {M : Type 1} → statement M
 hasplight-hertel-mehlhorn-idx-spec =
     tie.close
     (tie.spec
-    too-many-requires
+    count-refusal-requires
     returns
     no-floats-requires
     slice-aggregate-read-floats
     read-floats-requires
     array-share-prefix-floats
-    slice-aggregate-long-list
-    long-list-requires
+    slice-aggregate-early-refusal
+    early-refusal-requires
     returns-2
-    blank-requires
+    zeros-requires
     slice-aggregate-read-words
     read-words-requires
     array-share-prefix-floats-2

@@ -1,17 +1,22 @@
 -- `hasplight_triangulate_ear_clipping` meets its promise.
+use Rattle.hasplight.proofs.Counting.{counted-words}
 use native.Mathlib.Omega.{arith}
-use mathlib.Core.Path.{sym}
-use Rattle.words.proofs.Words.{floats-length, floats-read, floats-many}
-use Rattle.hasplight.proofs.Cutting.{refused-many, cut-read}
+use Prim.Native.Nat.{_/_, _≤_}
+use lib.ListN.{length}
+use denote.Ref.{now}
+use Rattle.rules.specs.Limits.{mostPoints, mostCoordinates}
+use Rattle.rules.proofs.Outlines.{counted-most}
+use Rattle.words.proofs.Words.{floats-read, floats-many}
+use Rattle.hasplight.proofs.Cutting.{refused-count, cut-read}
 use borrow.Author.Needs.{needs}
 use Rattle.hasplight.proofs.hasplight_triangulate_ear_clipping.Statement.{statement}
 use Rattle.hasplight.proofs.hasplight_triangulate_ear_clipping.Tie as tie
 
-too-many-requires : tie.Need-too-many-requires
-too-many-requires c κs = search needs
+count-refusal-requires : tie.Need-count-refusal-requires
+count-refusal-requires c κs = search needs
 
 returns : tie.Need-returns
-returns c = refused-many _ _ _ _ (sym (floats-length _)) (c .before .if1 .taken) (c .too-many .ensures)
+returns c = refused-count _ _ _ (counted-words 3 _ (c .before .count-refusal .ensures)) (c .if1 .taken)
 
 no-floats-requires : tie.Need-no-floats-requires
 no-floats-requires c κs = search needs
@@ -19,29 +24,48 @@ no-floats-requires c κs = search needs
 slice-aggregate-read-floats : tie.Need-slice-aggregate-read-floats
 slice-aggregate-read-floats c = search needs
 
+abbrev start : tie.After-count-refusal → tie.Start
+start c = c .before .before .before
+
+-- where the number of coordinates is accepted
+most : (c : tie.Else1) → length (now (start (c .before) .args .coords)) / 4 ≤ mostCoordinates
+most c = counted-most 3 mostPoints _ (c .before .count-refusal .ensures) (c .if1 .left)
+
+abbrev counted : tie.After-floats2 → tie.Else1
+counted c = let read = c .before in read .before .before .before
+
 read-floats-requires : tie.Need-read-floats-requires
-read-floats-requires c κs = search needs
+read-floats-requires c κs =
+    let m = c .before .before in
+    omega (arith, c .before .no-floats .ensures, most m)
 
 array-share-prefix-floats : tie.Need-array-share-prefix-floats
-array-share-prefix-floats c = search needs
+array-share-prefix-floats c =
+    let few = most (counted c) in
+    search needs
 
 slice-aggregate-cut : tie.Need-slice-aggregate-cut
 slice-aggregate-cut c = floats-many _ _ _ (c .before .before .read-floats .ensures)
 
 cut-requires : tie.Need-cut-requires
-cut-requires c κs = omega (arith, floats-many _ _ _ (c .before .before .before .read-floats .ensures), c .before .before .before .before .before .before .if1 .left)
+cut-requires c κs =
+    let floats = c .before .before in
+    omega (arith, floats-many _ _ _ (floats .before .read-floats .ensures), most (counted floats))
 
 same-length : tie.Need-same-length
 same-length c = search needs
 
 returns-2 : tie.Need-returns-2
-returns-2 c = cut-read _ _ _ _ _ (floats-read _ _ _ (c .before .before .before .before .before .before .read-floats .ensures)) (c .before .before .cut .ensures)
+returns-2 c =
+    let made = c .before .before in
+    let floats = made .before .before .before in
+    cut-read _ _ _ _ _ (floats-read _ _ _ (floats .before .read-floats .ensures)) (made .cut .ensures)
 
 pub hasplight-triangulate-ear-clipping-spec : {M : Type 1} → statement M
 hasplight-triangulate-ear-clipping-spec =
     tie.close
     (tie.spec
-    too-many-requires
+    count-refusal-requires
     returns
     no-floats-requires
     slice-aggregate-read-floats
