@@ -22,7 +22,7 @@ module _ {A : Type 0} where
 
   -- ---- a walk through b is one to b and one from b
 
-  pub steps-through : (a : A) (l : List A) (b : A) (m : List A) → steps a (l ++ b ∷ m) ≡ steps a (l ++ b ∷ []) ++ steps b m
+  steps-through : (a : A) (l : List A) (b : A) (m : List A) → steps a (l ++ b ∷ m) ≡ steps a (l ++ b ∷ []) ++ steps b m
   steps-through a [] b m = refl
   steps-through a (x ∷ l) b m = ap (λ (z : List (Edge A)). edge a x ∷ z) (steps-through x l b m)
 
@@ -30,7 +30,7 @@ module _ {A : Type 0} where
   steps-last a [] b = refl
   steps-last a (x ∷ l) b = ap (λ (z : List (Edge A)). edge a x ∷ z) (steps-last x l b)
 
-  pub bends-through : (a b : A) (l : List A) (c : A) (m : List A) → bends a b (l ++ c ∷ m) ≡ bends a b (l ++ c ∷ []) ++ bends (lastOf b l) c m
+  bends-through : (a b : A) (l : List A) (c : A) (m : List A) → bends a b (l ++ c ∷ m) ≡ bends a b (l ++ c ∷ []) ++ bends (lastOf b l) c m
   bends-through a b [] c m = refl
   bends-through a b (x ∷ l) c m = ap (λ (z : List (Corner A)). record { before = a; at = b; after = x } ∷ z) (bends-through b x l c m)
 

@@ -107,7 +107,7 @@ may-join-turns ps s e h = or-false _ _ (not-true _ h)
 
 -- ---- the chain
 
-pub data Merges (may : JoinTest) : List ℕ → List (List ℕ) → List (List ℕ) → Type 0 where
+data Merges (may : JoinTest) : List ℕ → List (List ℕ) → List (List ℕ) → Type 0 where
   rest-as-is : {a : List ℕ} {later : List (List ℕ)} → Merges may a later (a ∷ later)
   next-piece : {a b : List ℕ} {more r : List (List ℕ)} → Merges may b more r → Merges may a (b ∷ more) (a ∷ r)
   joined : {a : List ℕ} {later r : List (List ℕ)} {j : Part} → Join may a later j → Merges may (j .piece) (j .others) r → Merges may a later r
