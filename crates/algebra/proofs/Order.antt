@@ -1,8 +1,8 @@
 -- The order of ℤ. `up` and `dn` carry a fact of integers to one of naturals, which `omega` reads, and back.
 use mathlib.Core.Path.{_≡_, refl, sym, ap, subst}
-use mathlib.Core.Logic.{_⊎_, inl, inr, _≢_}
+use mathlib.Core.Logic.{_⊎_, inl, inr}
 use mathlib.Core.Bool.{Bool, true, false, not, cond}
-use Prim.Native.Nat.{ℕ, zero, suc, _+_, _*_, _-_, _≤_, _<_}
+use Prim.Native.Nat.{ℕ, zero, suc, _+_, _-_, _≤_, _<_}
 use native.Mathlib.Omega.{arith}
 use native.Mathlib.Nat.{mul-pos}
 use lib.Dec.{T, ltb, ltb→lt, leb→le, nltb→le, nleb→lt, le→leb, lt→ltb, not-T}
@@ -46,7 +46,7 @@ pub →≡ℤ : {a b : ℤ} → up a + dn b ≡ up b + dn a → a ≡ b
 →≡ℤ {a = negsuc a} {b = pos b} h = absurd (omega arith)
 →≡ℤ {a = negsuc a} {b = negsuc b} h = ap negsuc (omega arith)
 
--- what `up` and `dn` are at a sum, a difference, a negation and a product: facts for `omega`'s list
+-- what `up` and `dn` are at a sum, a difference and a negation: facts for `omega`'s list
 at-sub : (a b : ℕ) → up (subℕ a b) + b ≡ a + dn (subℕ a b)
 at-sub a b = go (ltb a b) (ltb→lt a b) (nltb→le a b)
   where
@@ -72,12 +72,6 @@ dn-neg (negsuc n) = refl
 
 pub at- : (a b : ℤ) → up (a -ℤ b) + (dn a + up b) ≡ up a + dn b + dn (a -ℤ b)
 at- a b = omega (arith, at+ a (negℤ b), up-neg b, dn-neg b)
-
-pub at* : (a b : ℤ) → up (a *ℤ b) + (up a * dn b + dn a * up b) ≡ up a * up b + dn a * dn b + dn (a *ℤ b)
-at* (pos a) (pos b) = omega arith
-at* (pos a) (negsuc b) = omega (arith, up-neg (pos (a * suc b)), dn-neg (pos (a * suc b)))
-at* (negsuc a) (pos b) = omega (arith, up-neg (pos (suc a * b)), dn-neg (pos (suc a * b)))
-at* (negsuc a) (negsuc b) = omega arith
 
 -- one of the two parts is zero
 pub up-or-dn : (a : ℤ) → (up a ≡ 0) ⊎ (dn a ≡ 0)
@@ -125,7 +119,7 @@ ltZ-false→ a b e = nltZ→ a b (T-false (ltZ a b) e)
 pub leZ-false→ : (a b : ℤ) → leZ a b ≡ false → up b + dn a < up a + dn b
 leZ-false→ a b e = nleZ→ a b (T-false (leZ a b) e)
 
--- `omega lin` proves an order or an equation between integers from those in scope. Each sum, difference, negation and product that it has to see through is listed:
+-- `omega lin` proves an order or an equation between integers from those in scope. Each sum, difference and negation that it has to see through is listed:
 -- `omega (lin, at+ a c, at- b d)`. It proves a `⊥` or an order of naturals from integers too
 pub ruleset lin = (arith, ≤ℤ→, →≤ℤ, <ℤ→, →<ℤ, ≡ℤ→, →≡ℤ, ltZ→, leZ→, nltZ→, nleZ→, ltZ-true→, leZ-true→, ltZ-false→, leZ-false→)
 
@@ -133,12 +127,6 @@ pub ruleset lin = (arith, ≤ℤ→, →≤ℤ, <ℤ→, →<ℤ, ≡ℤ→, →
 
 pub ≤ℤ-trans : {a b c : ℤ} → a ≤ℤ b → b ≤ℤ c → a ≤ℤ c
 ≤ℤ-trans h k = omega lin
-
-pub <ℤ-trans : {a b c : ℤ} → a <ℤ b → b <ℤ c → a <ℤ c
-<ℤ-trans h k = omega lin
-
-pub ≤ℤ-<ℤ-trans : {a b c : ℤ} → a ≤ℤ b → b <ℤ c → a <ℤ c
-≤ℤ-<ℤ-trans h k = omega lin
 
 pub <ℤ→≤ℤ : {a b : ℤ} → a <ℤ b → a ≤ℤ b
 <ℤ→≤ℤ h = omega lin
@@ -149,16 +137,7 @@ pub ≤ℤ-antisym : {a b : ℤ} → a ≤ℤ b → b ≤ℤ a → a ≡ b
 pub ≡→≤ℤ : {a b : ℤ} → a ≡ b → a ≤ℤ b
 ≡→≤ℤ e = omega lin
 
-pub <ℤ→≢ : {a b : ℤ} → a <ℤ b → a ≢ b
-<ℤ→≢ h e = omega lin
-
-pub ≤ℤ-≢→<ℤ : {a b : ℤ} → a ≤ℤ b → a ≢ b → a <ℤ b
-≤ℤ-≢→<ℤ {a} {b} h n = omega (lin, differ)
-  where
-    differ : up a + dn b ≢ up b + dn a
-    differ e = n (→≡ℤ e)
-
-pub ¬<ℤ→≤ℤ : {a b : ℤ} → ¬ (a <ℤ b) → b ≤ℤ a
+¬<ℤ→≤ℤ : {a b : ℤ} → ¬ (a <ℤ b) → b ≤ℤ a
 ¬<ℤ→≤ℤ {a} {b} n = ltZ-no (not-T (ltZ a b) (λ t. n (record { lt = t })))
 
 pub ≤ℤ→¬<ℤ : {a b : ℤ} → a ≤ℤ b → ¬ (b <ℤ a)
@@ -166,14 +145,8 @@ pub ≤ℤ→¬<ℤ : {a b : ℤ} → a ≤ℤ b → ¬ (b <ℤ a)
 
 -- ---- the tests
 
-pub leZ-no : {a b : ℤ} → T (not (leZ a b)) → b <ℤ a
-leZ-no {a} {b} t = nle→ a b t
-
-pub no-ltZ : {a b : ℤ} → b ≤ℤ a → T (not (ltZ a b))
+no-ltZ : {a b : ℤ} → b ≤ℤ a → T (not (ltZ a b))
 no-ltZ {a} {b} h = not-T (ltZ a b) (λ t. ≤ℤ→¬<ℤ h (record { lt = t }))
-
-pub no-leZ : {a b : ℤ} → b <ℤ a → T (not (leZ a b))
-no-leZ {a} {b} h = not-T (leZ a b) (λ t. ≤ℤ→¬<ℤ (record { le = t }) h)
 
 bool-eq : (b c : Bool) → (T b → T c) → (T c → T b) → b ≡ c
 bool-eq true true f g = refl
@@ -209,25 +182,10 @@ lt-or-leℤ a b = go (ltZ a b) (λ t. record { lt = t }) (λ t. ltZ-no t)
 pub +ℤ-mono : {a b c d : ℤ} → a ≤ℤ b → c ≤ℤ d → (a +ℤ c) ≤ℤ (b +ℤ d)
 +ℤ-mono {a} {b} {c} {d} h k = omega (lin, at+ a c, at+ b d)
 
-pub +ℤ-mono-< : {a b c d : ℤ} → a <ℤ b → c ≤ℤ d → (a +ℤ c) <ℤ (b +ℤ d)
-+ℤ-mono-< {a} {b} {c} {d} h k = omega (lin, at+ a c, at+ b d)
-
-pub +ℤ-cancel-≤ : (c : ℤ) {a b : ℤ} → (a +ℤ c) ≤ℤ (b +ℤ c) → a ≤ℤ b
-+ℤ-cancel-≤ c {a} {b} h = omega (lin, at+ a c, at+ b c)
-
-pub +ℤ-cancel-< : (c : ℤ) {a b : ℤ} → (a +ℤ c) <ℤ (b +ℤ c) → a <ℤ b
-+ℤ-cancel-< c {a} {b} h = omega (lin, at+ a c, at+ b c)
-
-pub sum-nonneg : {a b : ℤ} → pos 0 ≤ℤ a → pos 0 ≤ℤ b → pos 0 ≤ℤ (a +ℤ b)
-sum-nonneg {a} {b} h k = omega (lin, at+ a b)
-
-pub sum-pos : {a b : ℤ} → pos 0 <ℤ a → pos 0 ≤ℤ b → pos 0 <ℤ (a +ℤ b)
-sum-pos {a} {b} h k = omega (lin, at+ a b)
-
 pub ≤ℤ→sub : {a b : ℤ} → a ≤ℤ b → pos 0 ≤ℤ (b -ℤ a)
 ≤ℤ→sub {a} {b} h = omega (lin, at- b a)
 
-pub sub→≤ℤ : {a b : ℤ} → pos 0 ≤ℤ (b -ℤ a) → a ≤ℤ b
+sub→≤ℤ : {a b : ℤ} → pos 0 ≤ℤ (b -ℤ a) → a ≤ℤ b
 sub→≤ℤ {a} {b} h = omega (lin, at- b a)
 
 pub <ℤ→sub : {a b : ℤ} → a <ℤ b → pos 0 <ℤ (b -ℤ a)
@@ -238,12 +196,6 @@ sub→<ℤ {a} {b} h = omega (lin, at- b a)
 
 pub sub→≡ℤ : {a b : ℤ} → a -ℤ b ≡ pos 0 → a ≡ b
 sub→≡ℤ {a} {b} e = omega (lin, at- a b)
-
-pub neg-≤ℤ : {a b : ℤ} → a ≤ℤ b → negℤ b ≤ℤ negℤ a
-neg-≤ℤ {a} {b} h = omega (lin, up-neg a, dn-neg a, up-neg b, dn-neg b)
-
-pub neg-<ℤ : {a b : ℤ} → a <ℤ b → negℤ b <ℤ negℤ a
-neg-<ℤ {a} {b} h = omega (lin, up-neg a, dn-neg a, up-neg b, dn-neg b)
 
 -- ---- products
 
@@ -261,7 +213,7 @@ prod-pos {a = negsuc a} {b} h k = absurd (h .lt)
 pub *ℤ-mono : {a b : ℤ} (c : ℤ) → pos 0 ≤ℤ c → a ≤ℤ b → (c *ℤ a) ≤ℤ (c *ℤ b)
 *ℤ-mono {a} {b} c h k = sub→≤ℤ (rw (← *ℤ-sub-l c b a) (prod-nonneg h (≤ℤ→sub k)))
 
-pub *ℤ-mono-< : {a b : ℤ} (c : ℤ) → pos 0 <ℤ c → a <ℤ b → (c *ℤ a) <ℤ (c *ℤ b)
+*ℤ-mono-< : {a b : ℤ} (c : ℤ) → pos 0 <ℤ c → a <ℤ b → (c *ℤ a) <ℤ (c *ℤ b)
 *ℤ-mono-< {a} {b} c h k = sub→<ℤ (rw (← *ℤ-sub-l c b a) (prod-pos h (<ℤ→sub k)))
 
 pub *ℤ-cancel-≤ : (c : ℤ) {a b : ℤ} → pos 0 <ℤ c → (c *ℤ a) ≤ℤ (c *ℤ b) → a ≤ℤ b

@@ -1,12 +1,16 @@
 -- Laws of rings: a ring begun elsewhere, the place of a corner in its ring, and the sum around a ring that is begun elsewhere,
 -- that loses an element, or that is joined from two rings at the edge which they share.
+use Prim.Native.Nat.{ℕ, suc}
 use mathlib.Core.Path.{_≡_, refl, sym, _∙_, ap, ap₂}
-use mathlib.Core.List.{List, [], _∷_, _++_, append-assoc, append-nil}
-use Rattle.algebra.specs.Lists.{Each, end, _&_}
-use Rattle.algebra.proofs.Lists.{each-swap, each-++, each-front}
+use mathlib.Core.List.{List, [], _∷_, _++_, map, append-assoc, append-nil}
+use native.Mathlib.Omega.{arith}
+use lib.ListN.{length, take, drop, length-append, take-append-drop}
+use lib.Seq.{take-at, drop-at}
+use Rattle.algebra.specs.Lists.{Each, end, _&_, countFrom}
+use Rattle.algebra.proofs.Lists.{each-swap, each-++, each-front, each-map, each-all}
 use Rattle.algebra.specs.Sums.{Sums, total}
 use Rattle.algebra.proofs.Sums.{total-++, total-swap, insert, left-comm, idr}
-use Rattle.algebra.specs.Rings.{Edge, Corner, steps, edges, bends, corners, lastOf, firstOf, rotationsFrom, rotations, around}
+use Rattle.algebra.specs.Rings.{Edge, Corner, steps, edges, bends, corners, lastOf, firstOf, begunAt, rotationsFrom, rotations, around}
 
 module _ {A : Type 0} where
   abbrev edge : A → A → Edge A
@@ -18,7 +22,7 @@ module _ {A : Type 0} where
 
   -- ---- a walk through b is one to b and one from b
 
-  pub steps-through : (a : A) (l : List A) (b : A) (m : List A) → steps a (l ++ b ∷ m) ≡ steps a (l ++ b ∷ []) ++ steps b m
+  steps-through : (a : A) (l : List A) (b : A) (m : List A) → steps a (l ++ b ∷ m) ≡ steps a (l ++ b ∷ []) ++ steps b m
   steps-through a [] b m = refl
   steps-through a (x ∷ l) b m = ap (λ (z : List (Edge A)). edge a x ∷ z) (steps-through x l b m)
 
@@ -26,7 +30,7 @@ module _ {A : Type 0} where
   steps-last a [] b = refl
   steps-last a (x ∷ l) b = ap (λ (z : List (Edge A)). edge a x ∷ z) (steps-last x l b)
 
-  pub bends-through : (a b : A) (l : List A) (c : A) (m : List A) → bends a b (l ++ c ∷ m) ≡ bends a b (l ++ c ∷ []) ++ bends (lastOf b l) c m
+  bends-through : (a b : A) (l : List A) (c : A) (m : List A) → bends a b (l ++ c ∷ m) ≡ bends a b (l ++ c ∷ []) ++ bends (lastOf b l) c m
   bends-through a b [] c m = refl
   bends-through a b (x ∷ l) c m = ap (λ (z : List (Corner A)). record { before = a; at = b; after = x } ∷ z) (bends-through b x l c m)
 
@@ -79,15 +83,26 @@ module _ {A : Type 0} where
   pub total-rotated : {G : Type 0} (S : Sums G) (f : A → G) {l m : List A} → Rotated l m → total S f l ≡ total S f m
   total-rotated S f t = rw (t .was, t .now) (total-swap S f (t .front) (t .back))
 
-  -- every rotation of a ring is the ring begun elsewhere
-  rotationsFrom-are : (ring passed l : List A) → ring ≡ passed ++ l → Each (Rotated ring) (rotationsFrom passed l)
+  pub rotated-length : {l m : List A} → Rotated l m → length l ≡ length m
+  rotated-length t = rw (t .was, t .now, length-append (t .front) (t .back), length-append (t .back) (t .front)) (omega arith)
+
+  pub begun-rotated : (ring : List A) (i : ℕ) → Rotated ring (begunAt i ring)
+  begun-rotated ring i = record { front = take i ring; back = drop i ring; was = sym (take-append-drop i ring); now = refl }
+
+  -- the rotations of a ring are the ring begun at place 0, 1 and so on
+  rotationsFrom-begun : (ring passed l : List A) (i : ℕ) → ring ≡ passed ++ l → length passed ≡ i → rotationsFrom passed l ≡ map (λ j. begunAt j ring) (countFrom i (length l))
   unfolding rotationsFrom
-  rotationsFrom-are ring passed [] e = end
-  rotationsFrom-are ring passed (a ∷ l) e = record { front = passed; back = a ∷ l; was = e; now = refl } & rotationsFrom-are ring (passed ++ a ∷ []) l (e ∙ sym (append-assoc passed (a ∷ []) l))
+  rotationsFrom-begun ring passed [] i e n = refl
+  rotationsFrom-begun ring passed (a ∷ l) i e n =
+      let here : (a ∷ l) ++ passed ≡ begunAt i ring = rw (e, take-at passed (a ∷ l) i n, drop-at passed (a ∷ l) i n) in
+      ap₂ _∷_ here (rotationsFrom-begun ring (passed ++ a ∷ []) l (suc i) (e ∙ sym (append-assoc passed (a ∷ []) l)) (omega (arith, length-append passed (a ∷ []))))
+
+  pub rotations-begun : (ring : List A) → rotations ring ≡ map (λ i. begunAt i ring) (countFrom 0 (length ring))
+  unfolding rotations
+  rotations-begun ring = rotationsFrom-begun ring [] ring 0 refl refl
 
   pub rotations-are : (ring : List A) → Each (Rotated ring) (rotations ring)
-  unfolding rotations
-  rotations-are ring = rotationsFrom-are ring [] ring refl
+  rotations-are ring = rw (rotations-begun ring) (each-map (λ i. begunAt i ring) (each-all (begun-rotated ring) (countFrom 0 (length ring))))
 
 -- where a corner stands in its ring
 pub record Place {A : Type 0} (ring : List A) (c : Corner A) : Type 0 where

@@ -12,7 +12,7 @@ natAbs-parts : (z : ℤ) → natAbs z ≡ up z + dn z
 natAbs-parts (pos n) = omega arith
 natAbs-parts (negsuc n) = omega arith
 
-pub natAbs-neg : (z : ℤ) → natAbs (negℤ z) ≡ natAbs z
+natAbs-neg : (z : ℤ) → natAbs (negℤ z) ≡ natAbs z
 natAbs-neg (pos zero) = refl
 natAbs-neg (pos (suc n)) = refl
 natAbs-neg (negsuc n) = refl

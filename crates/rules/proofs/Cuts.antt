@@ -50,7 +50,7 @@ cuts-length (one-more {k} e r) = omega (arith, cuts-length r)
 
 -- the ear that is chosen is one of the corners
 module _ (ps : List Pt) (Q : Corner ℕ → Type 0) where
-  pub data Chosen : Choice → Type 0 where
+  data Chosen : Choice → Type 0 where
     none-yet : Chosen nothing
     chosen : {c : Corner ℕ} {f : Float} → Q c → ear ps c ≡ pointed f → Chosen (best c f)
 
@@ -105,7 +105,7 @@ module _ {ring : List ℕ} (d : Distinct ring) {c : Corner ℕ} (at : Place ring
   rest-length = rw (rest-is, at .whole, length-append (at .front) (c .at ∷ at .back), length-append (at .front) (at .back)) (omega arith)
 
   -- the triangle and the rest have the ring's sum
-  pub rest-sum : {G : Type 0} (S : Sums G) (w : ℕ → ℕ → G) → ((a b : ℕ) → S ._⊕_ (w a b) (w b a) ≡ S .nil) → around S w ring ≡ S ._⊕_ (around S w (ringOf c)) (around S w (without (c .at) ring))
+  rest-sum : {G : Type 0} (S : Sums G) (w : ℕ → ℕ → G) → ((a b : ℕ) → S ._⊕_ (w a b) (w b a) ≡ S .nil) → around S w ring ≡ S ._⊕_ (around S w (ringOf c)) (around S w (without (c .at) ring))
   rest-sum S w back = rw (rest-is, at .before, at .after) (ap (around S w) (at .whole) ∙ remove S w back (at .front) (c .at) (at .back))
 
 -- ---- the steps keep the sum, and the indices
@@ -120,7 +120,7 @@ three-sum S w (x ∷ y ∷ z ∷ []) c cs n e =
 three-sum S w (x ∷ y ∷ z ∷ u ∷ l) c cs n e = absurd (omega arith)
 
 module _ {G : Type 0} (S : Sums G) (w : ℕ → ℕ → G) (back : (a b : ℕ) → S ._⊕_ (w a b) (w b a) ≡ S .nil) where
-  pub cuts-sum : {ps : List Pt} {k : ℕ} {ring : List ℕ} {ts : List (Corner ℕ)} → Cuts ps k ring ts → length ring ≡ k + 3 → Distinct ring → around S w ring ≡ total S (around S w) (map ringOf ts)
+  cuts-sum : {ps : List Pt} {k : ℕ} {ring : List ℕ} {ts : List (Corner ℕ)} → Cuts ps k ring ts → length ring ≡ k + 3 → Distinct ring → around S w ring ≡ total S (around S w) (map ringOf ts)
   cuts-sum (three {ring} {c} {cs} e) n d = three-sum S w ring c cs n e ∙ sym (idr S (around S w (ringOf c)))
   cuts-sum {ps} (one-more {k} {ring} {c} e r) n d =
       let at = chosen-in ps (Place ring) (places ring) e .0 in

@@ -30,4 +30,5 @@ pub mod Outlines
 pub mod Answers
 pub mod Accepted
 pub mod Results
+pub mod Steps
 pub mod Both

@@ -5,16 +5,16 @@ use mathlib.Core.Bool.{Bool, true, false, cond, _&&_}
 use mathlib.Core.List.{List, [], _∷_, _++_, append-assoc}
 use mathlib.Core.Option.{Option, none, some}
 use lib.Dec.{eqb}
-use lib.ListN.{length, take, drop, take-append-drop}
+use lib.ListN.{length}
 use Rattle.algebra.specs.Lists.{Each, end, _&_, first}
-use Rattle.algebra.proofs.Lists.{each-++, each-front, each-back, each-head, each-tail, each-swap}
+use Rattle.algebra.proofs.Lists.{each-++, each-front, each-back, each-head, each-tail}
 use Rattle.algebra.proofs.Equal.{impossible, eqb-true, and-true-l, and-true-r, not-true, or-false}
 use Rattle.algebra.specs.Sums.{Sums, total}
-use Rattle.algebra.proofs.Sums.{total-++, total-swap, left-comm}
+use Rattle.algebra.proofs.Sums.{total-++, left-comm}
 use Rattle.rules.specs.Plane.{Pt}
 use Rattle.algebra.specs.Rings.{Corner, rotations}
 use Rattle.rules.specs.Merge.{follows, Part, with, lastFirst, mate, JoinTest, joint, bent, mayJoin, joinWith, join, nextJoin, goOn, mergeFrom, merge}
-use Rattle.algebra.proofs.Rings.{Rotated, rotations-are}
+use Rattle.algebra.proofs.Rings.{Rotated, each-rotated, total-rotated, begun-rotated, rotations-are}
 
 -- ---- what the searches find
 
@@ -96,6 +96,10 @@ join-is may a later (s ∷ e ∷ rest) j rotated h = go (mate e s [] later) refl
             subst (Join may a later) q (record { s = s; e = e; restA = rest; restB = m .piece; b = r .mated; rotatedA = rotated; rotatedB = r .rotated; picked = r .picked; allowed = k; piece = refl })
         next false k h = impossible (cc)
 
+pub next-join : (may : JoinTest) (a : List ℕ) (later : List (List ℕ)) (j : Part) → nextJoin may a later ≡ some j → Join may a later j
+unfolding nextJoin
+next-join may a later j i = let (t, rotated, h) = first-some (join may later) j (rotations-are a) i in join-is may a later t j rotated h
+
 -- where two pieces may be joined, neither corner of the join turns right
 pub may-join-turns : (ps : List Pt) (s e : Corner ℕ) → mayJoin ps s e ≡ true → (bent ps s ≡ false) × (bent ps e ≡ false)
 unfolding mayJoin
@@ -103,22 +107,20 @@ may-join-turns ps s e h = or-false _ _ (not-true _ h)
 
 -- ---- the chain
 
-pub data Merges (may : JoinTest) : List ℕ → List (List ℕ) → List (List ℕ) → Type 0 where
+data Merges (may : JoinTest) : List ℕ → List (List ℕ) → List (List ℕ) → Type 0 where
   rest-as-is : {a : List ℕ} {later : List (List ℕ)} → Merges may a later (a ∷ later)
   next-piece : {a b : List ℕ} {more r : List (List ℕ)} → Merges may b more r → Merges may a (b ∷ more) (a ∷ r)
   joined : {a : List ℕ} {later r : List (List ℕ)} {j : Part} → Join may a later j → Merges may (j .piece) (j .others) r → Merges may a later r
 
 merges : (k : ℕ) (may : JoinTest) (a : List ℕ) (later : List (List ℕ)) → Merges may a later (mergeFrom k may a later)
-unfolding mergeFrom nextJoin
+unfolding mergeFrom
 merges zero may a later = rest-as-is
 merges (suc k) may a later = go (merges k may) later (nextJoin may a later) refl
   where
     go : ((a : List ℕ) (later : List (List ℕ)) → Merges may a later (mergeFrom k may a later)) → (later : List (List ℕ)) (o : Option Part) → nextJoin may a later ≡ o → Merges may a later (goOn (mergeFrom k may) a later o)
     go rec [] none i = rest-as-is
     go rec (b ∷ more) none i = next-piece (rec b more)
-    go rec later (some j) i =
-        let (t, rotated, h) = first-some (join may later) j (rotations-are a) i in
-        joined (join-is may a later t j rotated h) (rec (j .piece) (j .others))
+    go rec later (some j) i = joined (next-join may a later j i) (rec (j .piece) (j .others))
 
 -- ---- two laws for piece A at the head of the list: A without a join is finished; a join takes A's place
 
@@ -140,9 +142,9 @@ module _ {G : Type 0} (S : Sums G) where
 
   module _ (f : List ℕ → G) where
     lastFirst-sum : (l : List (List ℕ)) → total S f (lastFirst l) ≡ total S f l
-    lastFirst-sum l = total-swap S f (drop (length l - 1) l) (take (length l - 1) l) ∙ ap (total S f) (take-append-drop (length l - 1) l)
+    lastFirst-sum l = sym (total-rotated S f (begun-rotated l (length l - 1)))
 
-    picked-sum : {b : List ℕ} {l m : List (List ℕ)} → Picked b l m → total S f l ≡ f b ⊕ total S f m
+    pub picked-sum : {b : List ℕ} {l m : List (List ℕ)} → Picked b l m → total S f l ≡ f b ⊕ total S f m
     picked-sum {b} p =
         rw (p .was, p .now, total-++ S f (p .front) (b ∷ p .back), total-++ S f (p .front) (lastFirst (p .back)), lastFirst-sum (p .back))
         (left-comm S (total S f (p .front)) (f b) (total S f (p .back)))
@@ -166,9 +168,6 @@ module _ {G : Type 0} (S : Sums G) where
 
 -- ---- what a join keeps, holds of every piece
 
-lastFirst-each : {P : List ℕ → Type 0} (l : List (List ℕ)) → Each P l → Each P (lastFirst l)
-lastFirst-each {P} l h = each-swap (take (length l - 1) l) (drop (length l - 1) l) (rw (take-append-drop (length l - 1) l) h)
-
 module _ (may : JoinTest) (P : List ℕ → Type 0) (rotated : (l m : List ℕ) → Rotated l m → P l → P m)
     (keeps : (s e : ℕ) (restA restB : List ℕ) → may (joint s e restA restB) (joint e s restB restA) ≡ true → P (s ∷ e ∷ restA) → P (e ∷ s ∷ restB) → P ((e ∷ restA) ++ (s ∷ restB))) where
   merges-each : {a : List ℕ} {later r : List (List ℕ)} → Merges may a later r → P a → Each P later → Each P r
@@ -183,7 +182,7 @@ module _ (may : JoinTest) (P : List ℕ → Type 0) (rotated : (l m : List ℕ) 
       piece = rw (i .piece) (keeps (i .s) (i .e) (i .restA) (i .restB) (i .allowed) (rotated _ _ (i .rotatedA) p) (rotated _ _ (i .rotatedB) (each-head (each-back (i .picked .front) (i .b ∷ i .picked .back) parts))))
 
       others : Each P (j .others)
-      others = rw (i .picked .now) (each-++ (each-front (i .picked .front) (i .b ∷ i .picked .back) parts) (lastFirst-each (i .picked .back) (each-tail (each-back (i .picked .front) (i .b ∷ i .picked .back) parts))))
+      others = rw (i .picked .now) (each-++ (each-front (i .picked .front) (i .b ∷ i .picked .back) parts) (each-rotated (begun-rotated (i .picked .back) (length (i .picked .back) - 1)) (each-tail (each-back (i .picked .front) (i .b ∷ i .picked .back) parts))))
 
   pub merge-each : (pieces : List (List ℕ)) → Each P pieces → Each P (merge may pieces)
   unfolding merge

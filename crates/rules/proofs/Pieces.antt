@@ -12,14 +12,11 @@ use Rattle.rules.specs.Plane.{Pt, point}
 use Rattle.algebra.specs.Rings.{Corner, corners, ringOf, around}
 use Rattle.rules.specs.Merge.{JoinTest, joint, mayJoin, merge}
 use Rattle.rules.specs.Measure.{NotRight, NoneRight}
-use Rattle.algebra.proofs.Rings.{Rotated, corners-rotated, each-rotated, around-rotated, join, corners-two}
+use Rattle.algebra.proofs.Rings.{Rotated, rotated-length, corners-rotated, each-rotated, around-rotated, join, corners-two}
 use Rattle.rules.proofs.Turns.{right-rotates}
 use Rattle.rules.proofs.Merges.{merge-sum, merge-each, may-join-turns}
 
 -- ---- sizes
-
-rotated-length : {l m : List ℕ} → Rotated l m → length l ≡ length m
-rotated-length t = rw (t .was, t .now, length-append (t .front) (t .back), length-append (t .back) (t .front)) (omega arith)
 
 abbrev beyond-two : List ℕ → ℕ
 beyond-two t = length t - 2

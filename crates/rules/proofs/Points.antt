@@ -8,7 +8,7 @@ use Rattle.algebra.proofs.Equal.{impossible, T→true, and-true-l, and-true-r}
 use Rattle.algebra.proofs.Order.{lin}
 use Rattle.rules.specs.Plane.{Pt, same}
 
-pub same-self : (a : Pt) → same a a ≡ true
+same-self : (a : Pt) → same a a ≡ true
 same-self a = rw (T→true (leZ (a .x) (a .x)) (≤ℤ-refl (a .x) .le), T→true (leZ (a .y) (a .y)) (≤ℤ-refl (a .y) .le))
 
 pub equal→same : (a b : Pt) → a ≡ b → same a b ≡ true
