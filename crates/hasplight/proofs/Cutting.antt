@@ -38,7 +38,7 @@ module _ (cs : List Float) where
       go (yes e) = let r = cut-result cs out e in omega (arith, r .count, r .outline .fits)
       go (no d) = omega (arith, cutter-none cs out d .0)
 
-  kept-length : (out : List ℕ) → length (cutter cs out .indices) ≡ length out
+  pub kept-length : (out : List ℕ) → length (cutter cs out .indices) ≡ length out
   kept-length out = go (ℕ-discrete (cutter cs out .number) 0)
     where
       go : Dec (cutter cs out .number ≡ 0) → length (cutter cs out .indices) ≡ length out

@@ -5,3 +5,4 @@ pub mod Asked
 pub mod Sizes
 pub mod Merging
 pub mod Unique
+pub mod Refused

@@ -68,7 +68,7 @@ module _ (bytes : List ℕ) (old new : List Float) (is : new ≡ floatsOf bytes 
 
 -- ---- writing
 
-bytes-length : (ws : List ℕ) → length (bytesOf ws) ≡ length ws * 4
+pub bytes-length : (ws : List ℕ) → length (bytesOf ws) ≡ length ws * 4
 unfolding bytesOf
 bytes-length [] = refl
 bytes-length (w ∷ ws) = omega (arith, bytes-length ws)
