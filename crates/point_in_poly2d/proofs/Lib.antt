@@ -1,3 +1,2 @@
 pub mod Crossings
-pub mod Sides
 pub mod Asked

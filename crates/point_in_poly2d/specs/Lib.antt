@@ -1,2 +1,2 @@
 pub mod Verdicts
-pub mod Sides
+pub mod Edges

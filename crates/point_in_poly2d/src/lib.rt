@@ -1,18 +1,18 @@
 // The point tests: after the crate's src/utils/point_in_poly2d.rs.
 use entries::MOST_POINTS;
+use entries::either;
 use grid::outline::outline_refusal;
 use grid::point::Point;
-use grid::point_in_triangle::Orientation;
 use grid::point_in_triangle::corner_direction;
 ghost use mathlib.Core.Path.{_≡_};
 ghost use mathlib.Core.Bool.{true, false};
 ghost use Rattle.algebra.specs.Sums.{xor};
 ghost use Rattle.rules.specs.Grid.{pointsOf};
-ghost use Rattle.rules.specs.Crossing.{crossed, inside as insideOf, insideConvex};
+ghost use Rattle.rules.specs.Crossing.{crossed};
 ghost use Rattle.rules.specs.Refusals.{offGrid, firstRefusal, pointTestChecks};
 ghost use Rattle.rules.specs.Entries.{asking, pointInPoly2d, pointInConvexPoly2d};
 ghost use Rattle.grid.specs.Points.{onGridPt, ptOf};
-ghost use Rattle.point_in_poly2d.specs.Sides.{opposedOf, keptOf};
+ghost use Rattle.point_in_poly2d.specs.Edges.{passed, toldBy};
 ghost use Rattle.point_in_poly2d.specs.Verdicts.{verdict, testOf};
 
 // What a point test answers.
@@ -65,89 +65,74 @@ fn differ(s: bool, t: bool) -> bool
     if s { !t } else { t }
 }
 
-// Whether p crosses an odd number of edges.
-fn odd_crossings(p: Point, coords: &[f32]) -> bool
+// What the edges that were passed have shown: whether an odd number of them is crossed, or, for the convex test, whether p is left of
+// some and right of some.
+struct Seen {
+    odd: bool,
+    left: bool,
+    right: bool,
+}
+
+// One edge more, from a to b.
+fn pass(s: Seen, p: Point, a: Point, b: Point, convex: bool) -> Seen
     requires { ⌜ onGridPt p ≡ true ⌝ }
-    requires { ⌜ offGrid (now coords) ≡ false ⌝ }
-    ensures { λ r. ⌜ r ≡ insideOf (ptOf p) (pointsOf (now (coords .entry))) ⌝ }
+    requires { ⌜ onGridPt a ≡ true ⌝ }
+    requires { ⌜ onGridPt b ≡ true ⌝ }
+    ensures { λ r. ⌜ r ≡ passed convex (ptOf p) s (ptOf a) (ptOf b) ⌝ }
 {
-    let n = coords.len() / 2;
-    if n == 0 {
-        return false;
-    }
-    let first = grid::point_at(coords, 0);
-    let mut odd = false;
-    let mut a = first;
-    let mut i = 1;
-    while i < n {
-        let b = grid::point_at(coords, i);
-        odd = differ(odd, crosses(p, a, b));
-        a = b;
-        i += 1;
-    }
-    differ(odd, crosses(p, a, first))
-}
-
-// Whether two directions are a left and a right.
-fn opposed(s: Orientation, t: Orientation) -> bool
-    ensures { λ r. ⌜ r ≡ opposedOf s t ⌝ }
-{
-    match s {
-        Orientation::Ccw => t.is_cw(),
-        Orientation::Cw => t.is_ccw(),
-        Orientation::None => false,
-    }
-}
-
-// The first of two directions that is not straight.
-fn kept(s: Orientation, t: Orientation) -> Orientation
-    ensures { λ r. ⌜ r ≡ keptOf s t ⌝ }
-{
-    match s {
-        Orientation::Ccw => Orientation::Ccw,
-        Orientation::Cw => Orientation::Cw,
-        Orientation::None => t,
-    }
-}
-
-// Whether p is on one side of all edges.
-fn one_side(p: Point, coords: &[f32]) -> bool
-    requires { ⌜ onGridPt p ≡ true ⌝ }
-    requires { ⌜ offGrid (now coords) ≡ false ⌝ }
-    ensures { λ r. ⌜ r ≡ insideConvex (ptOf p) (pointsOf (now (coords .entry))) ⌝ }
-{
-    let n = coords.len() / 2;
-    if n == 0 {
-        return false;
-    }
-    let first = grid::point_at(coords, 0);
-    let mut sign = Orientation::None;
-    let mut a = first;
-    let mut i = 1;
-    while i < n {
-        let b = grid::point_at(coords, i);
+    if convex {
         let side = corner_direction(a, b, p);
-        if opposed(sign, side) {
-            return false;
-        }
-        sign = kept(sign, side);
-        a = b;
-        i += 1;
+        return Seen {
+            odd: s.odd,
+            left: either(s.left, side.is_ccw()),
+            right: either(s.right, side.is_cw()),
+        };
     }
-    !opposed(sign, corner_direction(a, first, p))
+    Seen {
+        odd: differ(s.odd, crosses(p, a, b)),
+        left: s.left,
+        right: s.right,
+    }
 }
 
-// One of the two tests.
-fn passes(p: Point, coords: &[f32], convex: bool) -> bool
+// What all edges together say.
+fn told(s: Seen, convex: bool) -> bool
+    ensures { λ r. ⌜ r ≡ toldBy convex s ⌝ }
+{
+    if convex {
+        if s.left {
+            return !s.right;
+        }
+        return true;
+    }
+    s.odd
+}
+
+// One of the two tests: of the crossings, or where `convex` of the sides of all edges.
+fn walk(p: Point, coords: &[f32], convex: bool) -> bool
     requires { ⌜ onGridPt p ≡ true ⌝ }
     requires { ⌜ offGrid (now coords) ≡ false ⌝ }
     ensures { λ r. ⌜ r ≡ testOf convex (ptOf p) (pointsOf (now (coords .entry))) ⌝ }
 {
-    if convex {
-        one_side(p, coords)
-    } else {
-        odd_crossings(p, coords)
+    let n = coords.len() / 2;
+    if n == 0 {
+        return false;
     }
+    let first = grid::point_at(coords, 0);
+    let mut seen = Seen {
+        odd: false,
+        left: false,
+        right: false,
+    };
+    let mut a = first;
+    let mut i = 1;
+    while i < n {
+        let b = grid::point_at(coords, i);
+        seen = pass(seen, p, a, b, convex);
+        a = b;
+        i += 1;
+    }
+    told(pass(seen, p, a, first, convex), convex)
 }
 
 // What either test answers of (x, y): the refusal, or what the test says.
@@ -159,7 +144,7 @@ pub fn ask(x: f32, y: f32, coords: &[f32], convex: bool) -> Verdict
         return Verdict::Refused(number);
     }
     let p = Point { x, y };
-    if passes(p, coords, convex) {
+    if walk(p, coords, convex) {
         Verdict::Inside
     } else {
         Verdict::Outside

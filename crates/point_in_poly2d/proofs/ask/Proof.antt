@@ -13,18 +13,18 @@ refusal-requires c κs = search needs
 returns : tie.Need-returns
 returns c = refused _ _ _ _ _ (c .before .refusal .ensures) (c .if1 .taken)
 
-passes-requires : tie.Need-passes-requires
-passes-requires c κs = accepted _ _ _ _ (c .before .refusal .ensures) (c .if1 .left) _ refl refl
+walk-requires : tie.Need-walk-requires
+walk-requires c κs = accepted _ _ _ _ (c .before .refusal .ensures) (c .if1 .left) _ refl refl
 
 returns-2 : tie.Need-returns-2
 returns-2 c =
     let tested = c .before in
-    ap (λ b. cond b Inside Outside) (sym (c .if2 .taken)) ∙ answered _ _ _ _ _ (tested .before .before .refusal .ensures) (tested .before .if1 .left) (tested .passes .ensures)
+    ap (λ b. cond b Inside Outside) (sym (c .if2 .taken)) ∙ answered _ _ _ _ _ (tested .before .before .refusal .ensures) (tested .before .if1 .left) (tested .walk .ensures)
 
 returns-3 : tie.Need-returns-3
 returns-3 c =
     let tested = c .before in
-    ap (λ b. cond b Inside Outside) (sym (c .if2 .left)) ∙ answered _ _ _ _ _ (tested .before .before .refusal .ensures) (tested .before .if1 .left) (tested .passes .ensures)
+    ap (λ b. cond b Inside Outside) (sym (c .if2 .left)) ∙ answered _ _ _ _ _ (tested .before .before .refusal .ensures) (tested .before .if1 .left) (tested .walk .ensures)
 
 pub ask-spec : {M : Type 1} → statement M
-ask-spec = tie.close (tie.spec refusal-requires returns passes-requires returns-2 returns-3)
+ask-spec = tie.close (tie.spec refusal-requires returns walk-requires returns-2 returns-3)
