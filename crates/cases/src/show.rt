@@ -1,5 +1,7 @@
 // Runs an entry, and writes its name and what came back as one line.
 use ear_clipping::triangulate_ear_clipping;
+use entries::MOST_TRIANGLES;
+use entries::zeros;
 use hertel_mehlhorn::hertel_mehlhorn_idx;
 use point_in_poly2d::Verdict;
 use point_in_poly2d::point_in_convex_poly2d;
@@ -57,7 +59,7 @@ fn group(indices: &[u32], at: usize, size: usize)
 
 fn triangles(indices: &[u32], count: u32) {
     let mut k = 0;
-    while k < 510 {
+    while k < MOST_TRIANGLES {
         if (k as u32) < count {
             group(indices, k * 3, 3);
         }
@@ -110,7 +112,7 @@ pub fn cut(name: &[u8], coords: &[f32], indices: &mut [u32]) {
 
 // Only how many, where there are too many to read.
 pub fn cut_large(name: &[u8], coords: &[f32]) {
-    let mut indices = [0u32; 1530];
+    let mut indices = zeros();
     let a = triangulate_ear_clipping(coords, &mut indices);
     begin(name);
     if a.number != 0 {
@@ -141,8 +143,8 @@ pub fn merge(
 }
 
 pub fn merge_large(name: &[u8], coords: &[f32], triangles: &[u32]) {
-    let mut indices = [0u32; 1530];
-    let mut lengths = [0u32; 510];
+    let mut indices = zeros();
+    let mut lengths = [0u32; MOST_TRIANGLES];
     let a = hertel_mehlhorn_idx(coords, triangles, &mut indices, &mut lengths);
     begin(name);
     if a.number != 0 {

@@ -13,6 +13,7 @@ use lib.Ieee.Fits.{nearest-le, core, round-is, down-pos}
 use borrow.Author.Tests.{lt-ltb, le-ltb, le-leb, ltb-true, ltb-false, eq-eqb, eqb-true, eqb-false}
 use Rattle.algebra.proofs.Equal.{and-true-l}
 use Rattle.algebra.proofs.Sizes.{natAbs-add}
+use Rattle.rules.specs.Limits.{gridEdge}
 use Rattle.rules.specs.Grid.{signed, wholeOf, onGrid}
 use Rattle.rules.proofs.GridSizes.{natAbs-signed}
 use Rattle.grid.proofs.Value.{Is, left-num, right-num, add-is, sub-is}
@@ -163,7 +164,7 @@ both true false true = refl
 both true true false = refl
 both true true true = refl
 
-room : (n : ℕ) → n ≤ 1024 → n + 12582912 ≤ 2 ^ 24
+room : (n : ℕ) → n ≤ gridEdge → n + 12582912 ≤ 2 ^ 24
 room n h = omega arith
 
 outside : (s v w : Bool) → cond (not s || false) (cond (s || false) v false) false ≡ (w && false)
@@ -185,8 +186,8 @@ eq-back s m e h = go (eqb (m * up e % down e) 0) refl
     yes' : m * up e % down e ≡ 0 → eq y x ≡ true
     yes' r =
         let q = m * up e / down e in
-        let q≤ : q ≤ 1024 = le-of-suc-le-suc (div-lt-iff-lt-mul (down-pos e) .1 h) in
-        let on : onGrid (fin s m e) ≡ true = rw (r, le-leb q 1024 q≤) in
+        let q≤ : q ≤ gridEdge = le-of-suc-le-suc (div-lt-iff-lt-mul (down-pos e) .1 h) in
+        let on : onGrid (fin s m e) ≡ true = rw (r, le-leb q gridEdge q≤) in
         let w = grid-within (fin s m e) (subst T (sym on) tt) in
         let z = wholeOf (fin s m e) in
         let C = pos 12582912 in
@@ -205,7 +206,7 @@ eq-back s m e h = go (eqb (m * up e % down e) 0) refl
 
 test-fin : (s : Bool) (m : ℕ) (e : ℤ)
     → cond (lt lo (fin s m e)) (cond (lt (fin s m e) hi) (eq (sub binary32 (add binary32 (fin s m e) bigF) bigF) (fin s m e)) false) false ≡ onGrid (fin s m e)
-test-fin s m e = rw (lt-lo s m e, lt-hi s m e, ← leb·suc-suc (m * up e / down e) 1024) (go (ltb (m * up e / down e) 1025) refl)
+test-fin s m e = rw (lt-lo s m e, lt-hi s m e, ← leb·suc-suc (m * up e / down e) gridEdge) (go (ltb (m * up e / down e) 1025) refl)
   where
     go : (t : Bool) → ltb (m * up e / down e) 1025 ≡ t
         → cond (not s || t) (cond (s || t) (eq (sub binary32 (add binary32 (fin s m e) bigF) bigF) (fin s m e)) false) false ≡ (eqb (m * up e % down e) 0 && t)

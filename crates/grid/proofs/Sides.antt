@@ -5,12 +5,13 @@ use lib.Dec.{lit≤}
 use lib.IntN.{ℤ, pos, _-ℤ_}
 use mathlib.Core.Bool.{false}
 use lib.Ieee.{Float, fin, binary32, add, sub, mul, ofInt}
+use Rattle.rules.specs.Limits.{gridEdge}
 use Rattle.rules.specs.Plane.{Pt}
 use Rattle.rules.proofs.GridSizes.{product-small, Side, squareOf}
 use Rattle.grid.proofs.Value.{Within, ofInt-is}
 use Rattle.grid.proofs.Canon.{add-zero-canon, sub-canon, dot-self}
 
-pub diff : {x y : Float} {a b : ℤ} → Within 1024 x a → Within 1024 y b → sub binary32 (add binary32 x (fin false 0 (pos 0))) y ≡ ofInt binary32 (a -ℤ b)
+pub diff : {x y : Float} {a b : ℤ} → Within gridEdge x a → Within gridEdge y b → sub binary32 (add binary32 x (fin false 0 (pos 0))) y ≡ ofInt binary32 (a -ℤ b)
 diff {x} {y} {a} {b} i j = rw (add-zero-canon binary32 (i .is)) (sub-canon binary32 a (le-trans (i .small) (lit≤ tt)) (j .is))
 
 -- of two floats that are an integer's own

@@ -14,6 +14,7 @@ use lib.Ieee.Fits.{and-l, and-r}
 use Rattle.algebra.specs.Reify.{reify}
 use Rattle.algebra.proofs.Equal.{impossible, T→true}
 use Rattle.algebra.proofs.Solve.{ring}
+use Rattle.rules.specs.Limits.{gridEdge}
 use Rattle.rules.specs.Plane.{Pt, minus, cross, turn}
 use Rattle.rules.proofs.Turns.{coordinates}
 use Rattle.rules.proofs.GridSizes.{GridPoint, coordinate-small}
@@ -24,12 +25,12 @@ use Rattle.grid.specs.Points.{onGridPt, ptOf, orientation, isCcw, isCw}
 use Rattle.grid.proofs.Value.{Is, Within, lt-is, sub-within, mul-within}
 
 -- a grid value is its whole number
-pub grid-within : (x : Float) → T (onGrid x) → Within 1024 x (wholeOf x)
+pub grid-within : (x : Float) → T (onGrid x) → Within gridEdge x (wholeOf x)
 grid-within nan t = absurd t
 grid-within (inf s) t = absurd t
 grid-within (fin s m e) t =
     let q = m * up e / down e in
-    let r : m * up e % down e ≡ 0 = eqb→eq (m * up e % down e) 0 (and-l (eqb (m * up e % down e) 0) (leb q 1024) t) in
+    let r : m * up e % down e ≡ 0 = eqb→eq (m * up e % down e) 0 (and-l (eqb (m * up e % down e) 0) (leb q gridEdge) t) in
     let v : m * up e * 1 ≡ q * down e = mul-one (m * up e) ∙ sym (div-add-mod' (m * up e) (down e)) ∙ ap (λ (x : ℕ). q * down e + x) r ∙ add-zero (q * down e) in
     record {
       is = record { s = s; n = q; value = (refl, v); whole = refl };
@@ -37,7 +38,7 @@ grid-within (fin s m e) t =
     }
 
 -- a point's coordinates
-pub pt-within : (p : Point) → onGridPt p ≡ true → Within 1024 (p .x) (wholeOf (p .x)) × Within 1024 (p .y) (wholeOf (p .y))
+pub pt-within : (p : Point) → onGridPt p ≡ true → Within gridEdge (p .x) (wholeOf (p .x)) × Within gridEdge (p .y) (wholeOf (p .y))
 unfolding onGridPt
 pt-within p h =
     let t : T (onGridPt p) = subst T (sym h) tt in

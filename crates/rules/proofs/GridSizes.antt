@@ -14,6 +14,7 @@ use Rattle.algebra.specs.Lists.{Each, end, _&_, any}
 use Rattle.algebra.proofs.Equal.{impossible, and-true-r, or-false, not-false}
 use Rattle.algebra.proofs.Order.{sub→≡ℤ}
 use Rattle.algebra.proofs.Sizes.{natAbs-sub, natAbs-mul, natAbs-zero, square-is}
+use Rattle.rules.specs.Limits.{gridEdge}
 use Rattle.rules.specs.Plane.{Pt, minus, point}
 use Rattle.rules.specs.Grid.{signed, wholeOf, onGrid, pointsOf}
 use Rattle.rules.specs.Refusals.{offGrid}
@@ -25,14 +26,14 @@ natAbs-signed false n = refl
 natAbs-signed true zero = refl
 natAbs-signed true (suc n) = refl
 
-pub coordinate-small : (c : Float) → onGrid c ≡ true → natAbs (wholeOf c) ≤ 1024
+pub coordinate-small : (c : Float) → onGrid c ≡ true → natAbs (wholeOf c) ≤ gridEdge
 coordinate-small nan h = impossible (cc)
 coordinate-small (inf s) h = impossible (cc)
 coordinate-small (fin s m e) h =
     let q = m * up e / down e in
-    rw (natAbs-signed s q) (leb→le q 1024 (subst T (sym (and-true-r (eqb (m * up e % down e) 0) (leb q 1024) h)) tt))
+    rw (natAbs-signed s q) (leb→le q gridEdge (subst T (sym (and-true-r (eqb (m * up e % down e) 0) (leb q gridEdge) h)) tt))
 
-pub difference-small : (a b : ℤ) → natAbs a ≤ 1024 → natAbs b ≤ 1024 → natAbs (a -ℤ b) ≤ 2048
+pub difference-small : (a b : ℤ) → natAbs a ≤ gridEdge → natAbs b ≤ gridEdge → natAbs (a -ℤ b) ≤ 2048
 difference-small a b h k = omega (arith, natAbs-sub a b)
 
 pub product-small : (a b : ℤ) → natAbs a ≤ 2048 → natAbs b ≤ 2048 → natAbs (a *ℤ b) ≤ 2 ^ 22
@@ -42,8 +43,8 @@ product-small a b h k = rw natAbs-mul (mul-le-mul h k)
 
 -- both coordinates are from -1024 to 1024
 pub record GridPoint (p : Pt) : Type 0 where
-  pub x-small : natAbs (p .x) ≤ 1024
-  pub y-small : natAbs (p .y) ≤ 1024
+  pub x-small : natAbs (p .x) ≤ gridEdge
+  pub y-small : natAbs (p .y) ≤ gridEdge
 
 pub grid-points : (cs : List Float) → offGrid cs ≡ false → Each GridPoint (pointsOf cs)
 unfolding offGrid pointsOf

@@ -1,14 +1,15 @@
 -- `triangles` is safe and ends.
 use Prim.Native.Nat.{_-_, _≤_}
 use borrow.Author.Needs.{needs}
+use Rattle.rules.specs.Limits.{mostTriangles}
 use Rattle.cases.proofs.show.triangles.Statement.{statement}
 use Rattle.cases.proofs.show.triangles.Tie as tie
 
 abbrev Inv-loop : tie.InvT-loop
-Inv-loop indices count k₀ k = k ≤ 510
+Inv-loop indices count k₀ k = k ≤ mostTriangles
 
 abbrev μ-loop : tie.MeasureT-loop
-μ-loop indices count k₀ k = 510 - k
+μ-loop indices count k₀ k = mostTriangles - k
 
 loop-holds : tie.Need-loop-holds Inv-loop μ-loop
 loop-holds c = search needs
