@@ -4,6 +4,7 @@ mod record;
 ghost use Prim.Native.Nat.{_+_, _^_, _≤_};
 ghost use mathlib.Core.Path.{_≡_};
 ghost use lib.ListN.{length};
+ghost use Rattle.replay.specs.Small.{Small};
 
 enum End {
     Open,
@@ -40,7 +41,8 @@ fn earlier(first: usize, number: usize, different: usize) -> usize
 // Replays the whole records at the front of a block.
 fn replay(block: &[u8]) -> Tally
     requires { ⌜ length (now block) ≤ 65536 ⌝ }
-    ensures { λ r. ⌜ (r .left ≤ length (now (block .entry))) × (r .first ≤ r .records) × (r .records ≤ 65536) × (r .inputs ≤ 134217728) × (r .different ≤ 134217728) ⌝ }
+    ensures { λ r. ⌜ Small r ⌝ }
+    ensures { λ r. ⌜ r .left ≤ length (now (block .entry)) ⌝ }
 {
     let mut records = 0;
     let mut inputs = 0;
@@ -103,7 +105,8 @@ fn shift(list: &mut [u8], from: usize, to: usize)
 fn replay_front(list: &mut [u8], n: usize) -> Tally
     requires { ⌜ n ≤ length (now list) ⌝ }
     requires { ⌜ length (now list) ≤ 65536 ⌝ }
-    ensures { λ r. ⌜ (r .left ≤ n) × (r .first ≤ r .records) × (r .records ≤ 65536) × (r .inputs ≤ 134217728) × (r .different ≤ 134217728) ⌝ }
+    ensures { λ r. ⌜ Small r ⌝ }
+    ensures { λ r. ⌜ r .left ≤ n ⌝ }
     ensures { λ r. ⌜ length (now (list .exit)) ≡ length (now (list .entry)) ⌝ }
 {
     let t = replay(&list[..n]);
@@ -157,7 +160,8 @@ fn ended(left: usize, failed: bool) -> End {
 fn turn(list: &mut [u8], have: usize) -> Tally
     requires { ⌜ have ≤ length (now list) ⌝ }
     requires { ⌜ length (now list) ≤ 65536 ⌝ }
-    ensures { λ r. ⌜ (r .left ≤ length (now (list .entry))) × (r .first ≤ r .records) × (r .records ≤ 65536) × (r .inputs ≤ 134217728) × (r .different ≤ 134217728) ⌝ }
+    ensures { λ r. ⌜ Small r ⌝ }
+    ensures { λ r. ⌜ r .left ≤ length (now (list .entry)) ⌝ }
     ensures { λ r. ⌜ length (now (list .exit)) ≡ length (now (list .entry)) ⌝ }
 {
     let got = more(list, have);
@@ -171,7 +175,7 @@ fn turn(list: &mut [u8], have: usize) -> Tally
 // What came of some records and of those behind them.
 fn sum(t: Tally, u: Tally) -> Tally
     requires { ⌜ (t .first ≤ t .records) × (t .records ≤ 2 ^ 62) × (t .inputs ≤ 2 ^ 63) × (t .different ≤ 2 ^ 63) ⌝ }
-    requires { ⌜ (u .first ≤ u .records) × (u .records ≤ 65536) × (u .inputs ≤ 134217728) × (u .different ≤ 134217728) ⌝ }
+    requires { ⌜ Small u ⌝ }
     ensures { λ r. ⌜ (r .left ≡ u .left) × (r .first ≤ r .records) × (r .records ≡ t .records + u .records) × (r .inputs ≡ t .inputs + u .inputs) × (r .different ≡ t .different + u .different) ⌝ }
 {
     let end = u.end;

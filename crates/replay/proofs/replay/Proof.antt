@@ -18,7 +18,7 @@ abbrev μ-loop : tie.MeasureT-loop
 μ-loop block records₀ inputs₀ different₀ first₀ left₀ records inputs different first left = left
 
 loop-holds : tie.Need-loop-holds Inv-loop μ-loop
-loop-holds c = (omega arith, omega arith, omega arith, omega arith, omega arith)
+loop-holds c = omega arith
 
 sub-rest : tie.Need-sub-rest Inv-loop μ-loop
 sub-rest c = omega arith
@@ -30,13 +30,13 @@ formed-requires : tie.Need-formed-requires Inv-loop μ-loop
 formed-requires c κs = search needs
 
 returns : tie.Need-returns Inv-loop μ-loop
-returns c = (omega arith, omega arith, omega arith, omega arith, omega arith)
+returns c = (omega arith, omega arith)
 
 size-requires : tie.Need-size-requires Inv-loop μ-loop
 size-requires c κs = search needs
 
 returns-2 : tie.Need-returns-2 Inv-loop μ-loop
-returns-2 c = (omega arith, omega arith, omega arith, omega arith, omega arith)
+returns-2 c = (omega arith, omega arith)
 
 different-requires : tie.Need-different-requires Inv-loop μ-loop
 different-requires c κs = search needs
@@ -60,10 +60,10 @@ loop-less : tie.Need-loop-less Inv-loop μ-loop
 loop-less c = omega arith
 
 loop-again : tie.Need-loop-again Inv-loop μ-loop
-loop-again c = (omega arith, omega arith, omega arith, omega arith, omega arith)
+loop-again c = omega arith
 
 returns-3 : tie.Need-returns-3 Inv-loop μ-loop
-returns-3 c = (omega arith, omega arith, omega arith, omega arith, omega arith)
+returns-3 c = (omega arith, omega arith)
 
 pub replay-spec : {M : Type 1} → statement M
 replay-spec =

@@ -23,7 +23,7 @@ none-requires : tie.Need-none-requires Inv-loop μ-loop
 none-requires c κs = search needs
 
 loop-holds : tie.Need-loop-holds Inv-loop μ-loop
-loop-holds c = (omega arith, omega arith, omega arith, omega arith, omega arith, omega arith)
+loop-holds c = omega arith
 
 is-open-requires : tie.Need-is-open-requires Inv-loop μ-loop
 is-open-requires c κs = search needs
@@ -32,7 +32,7 @@ turn-requires : tie.Need-turn-requires Inv-loop μ-loop
 turn-requires c κs = (omega arith, omega arith)
 
 sum-requires : tie.Need-sum-requires Inv-loop μ-loop
-sum-requires c κs = ((omega arith, omega arith, omega arith, omega arith), (omega arith, omega arith, omega arith, omega arith))
+sum-requires c κs = (omega arith, omega arith)
 
 add-reads : tie.Need-add-reads Inv-loop μ-loop
 add-reads c = omega arith
@@ -41,7 +41,7 @@ loop-less : tie.Need-loop-less Inv-loop μ-loop
 loop-less c = omega arith
 
 loop-again : tie.Need-loop-again Inv-loop μ-loop
-loop-again c = (omega arith, omega arith, omega arith, omega arith, omega arith, omega arith)
+loop-again c = omega arith
 
 same-length : tie.Need-same-length Inv-loop μ-loop
 same-length c = omega arith

@@ -30,8 +30,7 @@ same-length : tie.Need-same-length
 same-length c = search needs
 
 returns : tie.Need-returns
-returns c =
-    ((omega (arith, lent (c .before .before .before .before .before)), omega arith, omega arith, omega arith, omega arith), omega arith)
+returns c = (omega arith, (omega (arith, lent (c .before .before .before .before .before)), omega arith))
 
 pub replay-front-spec : {M : Type 1} → statement M
 replay-front-spec =
