@@ -1,24 +1,23 @@
 //! Inputs with what must come back, as records for the program `replay`: crates/replay/src/record.rt says how one stands.
 use crate::expected;
 use crate::inputs::Side;
-use crate::lent::{bytes_of, bytes_of_floats};
+use crate::lent::{bytes_of, bytes_of_floats, words};
 
 const FILL: u8 = 90;
 
 /// The most roots in a record.
-pub const ROOTS_EACH: u32 = 2048;
+const ROOTS_EACH: u32 = 2048;
 
 /// Hands each record on, with its number, counted from 1.
 pub struct Records<F: FnMut(u64, &[u8])> {
     put: F,
     pub records: u64,
     pub inputs: u64,
-    pub accepted: u64,
 }
 
 impl<F: FnMut(u64, &[u8])> Records<F> {
     pub fn new(put: F) -> Records<F> {
-        Records { put, records: 0, inputs: 0, accepted: 0 }
+        Records { put, records: 0, inputs: 0 }
     }
 
     fn record(&mut self, entry: u32, parts: [&[u8]; 4], number: u32, count: u32) {
@@ -36,7 +35,6 @@ impl<F: FnMut(u64, &[u8])> Side for Records<F> {
         let mut indices = vec![FILL; room];
         let a = expected::triangulate_ear_clipping(coords, &mut indices);
         self.record(1, [coords, &[], &indices, &[]], a.number, a.count);
-        self.accepted += (a.number == 0) as u64;
         (a.number == 0).then(|| indices[..12 * a.count as usize].to_vec())
     }
 
@@ -65,7 +63,7 @@ impl<F: FnMut(u64, &[u8])> Side for Records<F> {
 
 /// A record for a person to read.
 pub fn shown(record: &[u8]) -> String {
-    let head: Vec<u32> = crate::lent::words(&record[..28]);
+    let head = words(&record[..28]);
     let mut rest = &record[28..];
     let mut parts = Vec::new();
     for &size in &head[1..5] {

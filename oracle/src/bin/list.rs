@@ -46,6 +46,7 @@ fn edges(list: &mut impl Side) {
 
 fn main() {
     let mut list: Vec<u8> = Vec::new();
+    // of these, as many as 65536 bytes hold
     let mut side = Records::new(|_, record: &[u8]| {
         if list.len() + record.len() <= 65536 {
             list.extend(record);

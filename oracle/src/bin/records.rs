@@ -43,7 +43,7 @@ fn main() {
     let words: Vec<String> = std::env::args().skip(1).collect();
     let number = |i: usize| words.get(i).and_then(|w| w.parse::<u64>().ok());
     match (words.first().map(String::as_str), number(0), number(1), number(2)) {
-        (Some("--show"), _, Some(wanted), Some(seed)) => {
+        (Some("--show"), _, Some(wanted @ 1..), Some(seed)) => {
             write(u64::MAX, seed, |n, record| {
                 if n == wanted {
                     println!("record {n}, {}", shown(record));
