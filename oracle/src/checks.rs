@@ -1,4 +1,5 @@
 //! One input, both sides: every number, count, answer and byte must agree, the guard bytes included.
+use crate::inputs::Side;
 use crate::lent::Lent;
 use crate::{expected, ours};
 
@@ -7,52 +8,60 @@ fn differ(entry: &str, inputs: &str, ours: &str, theirs: &str) -> ! {
     std::process::exit(1);
 }
 
-/// The written bytes, where the cut was accepted.
-pub fn cut(coords: &[u8], room: usize) -> Option<Vec<u8>> {
-    let (mut a, mut b) = (Lent::new(room), Lent::new(room));
-    let r = ours::triangulate_ear_clipping(coords, a.lent());
-    let s = expected::triangulate_ear_clipping(coords, b.lent());
-    if r != s || a != b {
-        let inputs = format!("coords {coords:?}, {room} bytes of room");
-        differ("cut", &inputs, &format!("{r:?} {:?}", a.read()), &format!("{s:?} {:?}", b.read()));
-    }
-    (r.number == 0).then(|| a.read()[..12 * r.count as usize].to_vec())
+/// The archives, called; the program ends at the first difference.
+#[derive(Default)]
+pub struct Linked {
+    pub inputs: u64,
+    pub accepted: u64,
 }
 
-/// The number that was answered.
-pub fn merge(coords: &[u8], triangles: &[u8], room: usize, places: usize) -> u32 {
-    let (mut a, mut b) = (Lent::new(room), Lent::new(room));
-    let (mut c, mut d) = (Lent::new(places), Lent::new(places));
-    let r = ours::hertel_mehlhorn_idx(coords, triangles, a.lent(), c.lent());
-    let s = expected::hertel_mehlhorn_idx(coords, triangles, b.lent(), d.lent());
-    if r != s || a != b || c != d {
-        let inputs = format!("coords {coords:?}, triangles {triangles:?}, {room} and {places} bytes of room");
-        let show = |x: &Lent, y: &Lent| format!("{:?} {:?}", x.read(), y.read());
-        differ("merge", &inputs, &format!("{r:?} {}", show(&a, &c)), &format!("{s:?} {}", show(&b, &d)));
+impl Side for Linked {
+    fn cut(&mut self, coords: &[u8], room: usize) -> Option<Vec<u8>> {
+        let (mut a, mut b) = (Lent::new(room), Lent::new(room));
+        let r = ours::triangulate_ear_clipping(coords, a.lent());
+        let s = expected::triangulate_ear_clipping(coords, b.lent());
+        if r != s || a != b {
+            let inputs = format!("coords {coords:?}, {room} bytes of room");
+            differ("cut", &inputs, &format!("{r:?} {:?}", a.read()), &format!("{s:?} {:?}", b.read()));
+        }
+        self.inputs += 1;
+        self.accepted += (r.number == 0) as u64;
+        (r.number == 0).then(|| a.read()[..12 * r.count as usize].to_vec())
     }
-    r.number
-}
 
-pub fn ask(x: f32, y: f32, coords: &[u8]) {
-    let tests = [
-        ("inside", ours::point_in_poly2d(x, y, coords), expected::point_in_poly2d(x, y, coords)),
-        ("inside, convex", ours::point_in_convex_poly2d(x, y, coords), expected::point_in_convex_poly2d(x, y, coords)),
-    ];
-    for (entry, r, s) in tests {
-        if r != s {
-            differ(entry, &format!("({x}, {y}), coords {coords:?}"), &format!("{r:?}"), &format!("{s:?}"));
+    fn merge(&mut self, coords: &[u8], triangles: &[u8], room: usize, places: usize) {
+        let (mut a, mut b) = (Lent::new(room), Lent::new(room));
+        let (mut c, mut d) = (Lent::new(places), Lent::new(places));
+        let r = ours::hertel_mehlhorn_idx(coords, triangles, a.lent(), c.lent());
+        let s = expected::hertel_mehlhorn_idx(coords, triangles, b.lent(), d.lent());
+        if r != s || a != b || c != d {
+            let inputs = format!("coords {coords:?}, triangles {triangles:?}, {room} and {places} bytes of room");
+            let show = |x: &Lent, y: &Lent| format!("{:?} {:?}", x.read(), y.read());
+            differ("merge", &inputs, &format!("{r:?} {}", show(&a, &c)), &format!("{s:?} {}", show(&b, &d)));
+        }
+        self.inputs += 1;
+    }
+
+    fn ask(&mut self, x: f32, y: f32, coords: &[u8]) {
+        let tests = [
+            ("inside", ours::point_in_poly2d(x, y, coords), expected::point_in_poly2d(x, y, coords)),
+            ("inside, convex", ours::point_in_convex_poly2d(x, y, coords), expected::point_in_convex_poly2d(x, y, coords)),
+        ];
+        for (entry, r, s) in tests {
+            if r != s {
+                differ(entry, &format!("({x}, {y}), coords {coords:?}"), &format!("{r:?}"), &format!("{s:?}"));
+            }
+            self.inputs += 1;
         }
     }
-}
 
-/// The root of every radicand, bit for bit, and of some that are too large.
-pub fn roots() -> usize {
-    let most = 1 << 23;
-    for m in 0..=most + 64 {
-        let (r, s) = (ours::root(m), if m <= most { (m as f32).sqrt() } else { 0.0 });
-        if r.to_bits() != s.to_bits() {
-            differ("root", &format!("{m}"), &format!("{r:?}"), &format!("{s:?}"));
+    fn roots(&mut self, first: u32, count: u32) {
+        for m in first..first + count {
+            let (r, s) = (ours::root(m), expected::root(m));
+            if r.to_bits() != s.to_bits() {
+                differ("root", &format!("{m}"), &format!("{r:?}"), &format!("{s:?}"));
+            }
         }
+        self.inputs += count as u64;
     }
-    most as usize + 65
 }

@@ -1,8 +1,21 @@
 //! What must come back: the refusals in document 01's order, and on accepted input what the crate gives.
 use crate::lent::{bytes_of, words};
 use crate::math::Vector;
-use crate::ours::{Answer, Verdict};
 use crate::parry;
+
+#[repr(C)]
+#[derive(Clone, Copy, Debug, PartialEq, Eq)]
+pub struct Answer {
+    pub number: u32,
+    pub count: u32,
+}
+
+#[repr(C)]
+#[derive(Clone, Copy, Debug, PartialEq, Eq)]
+pub struct Verdict {
+    pub number: u32,
+    pub answer: u32,
+}
 
 fn floats(coords: &[u8]) -> Vec<f32> {
     words(coords).into_iter().map(f32::from_bits).collect()
@@ -109,4 +122,15 @@ pub fn point_in_poly2d(x: f32, y: f32, coords: &[u8]) -> Verdict {
 
 pub fn point_in_convex_poly2d(x: f32, y: f32, coords: &[u8]) -> Verdict {
     asked(x, y, coords, parry::point_in_convex_poly2d)
+}
+
+/// The largest radicand.
+pub const MOST: u32 = 1 << 23;
+
+pub fn root(m: u32) -> f32 {
+    if m <= MOST {
+        (m as f32).sqrt()
+    } else {
+        0.0
+    }
 }

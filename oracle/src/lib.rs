@@ -1,12 +1,17 @@
-//! The crate's files, compiled from where they stand, beside the entries of Hasplight, called through its archive.
+//! The crate's files, compiled from where they stand, beside the entries of Hasplight: called through its archives (`linked`), or by the
+//! program `replay`, for which records are written.
 extern crate alloc;
 
+#[cfg(feature = "linked")]
 pub mod checks;
 pub mod expected;
+pub mod inputs;
 pub mod lent;
 pub mod math;
+#[cfg(feature = "linked")]
 pub mod ours;
 pub mod random;
+pub mod records;
 pub mod shapes;
 mod transformation;
 mod utils;

@@ -1,18 +1,6 @@
 //! The entries of the archive.
 
-#[repr(C)]
-#[derive(Clone, Copy, Debug, PartialEq, Eq)]
-pub struct Answer {
-    pub number: u32,
-    pub count: u32,
-}
-
-#[repr(C)]
-#[derive(Clone, Copy, Debug, PartialEq, Eq)]
-pub struct Verdict {
-    pub number: u32,
-    pub answer: u32,
-}
+use crate::expected::{Answer, Verdict};
 
 // A lent slice is its address and its number of bytes.
 #[allow(improper_ctypes)]

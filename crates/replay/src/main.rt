@@ -1,185 +1,243 @@
-// Replays the list on standard input: on each of its inputs an exported entry must give back what the list says.
-// A record is seven numbers of four bytes (the entry; how many bytes of coordinates, of triangles or the asked point, of lent indices
-// and of lent lengths follow; number; count or answer) and then those bytes. All that is lent holds 90 before the call.
-ghost use Prim.Native.Nat.{_≤_};
+// Replays the records on standard input, any number of them: on each input an exported entry must give back what its record says.
+mod record;
+
+ghost use Prim.Native.Nat.{_+_, _^_, _≤_};
 ghost use mathlib.Core.Path.{_≡_};
 ghost use lib.ListN.{length};
+ghost use Rattle.replay.specs.Small.{Small};
 
+enum End {
+    Open,
+    Whole,
+    CutOff,
+    NoRecord,
+    Unread,
+}
+
+// What came of some records.
 struct Tally {
-    runs: usize,
+    records: usize,
+    inputs: usize,
     different: usize,
+    // the number of the first record with a difference, counted from 1, or 0
+    first: usize,
+    // how many bytes behind them have been read
+    left: usize,
+    end: End,
 }
 
-fn lent() -> [u8; 6144]
-    ensures { λ r. ⌜ length r ≡ 6144 ⌝ }
+// The number of the first record with a difference, once that of a later one with so many is known.
+fn earlier(first: usize, number: usize, different: usize) -> usize
+    requires { ⌜ first ≤ number ⌝ }
+    ensures { λ r. ⌜ r ≤ number ⌝ }
 {
-    [90u8; 6144]
-}
-
-fn same(a: &[u8], b: &[u8]) -> bool {
-    if a.len() != b.len() {
-        return false;
-    }
-    let mut i = 0;
-    while i < a.len() {
-        if a[i] != b[i] {
-            return false;
-        }
-        i += 1;
-    }
-    true
-}
-
-// What stands from a place on, or nothing where there is no such place.
-fn rest(list: &[u8], from: usize) -> &[u8] {
-    if from <= list.len() {
-        &list[from..]
+    if first == 0 && 0 < different {
+        number
     } else {
-        &list[..0]
+        first
     }
 }
 
-// The first n bytes, or all where there are fewer.
-fn front(list: &[u8], n: usize) -> &[u8] {
-    if n <= list.len() { &list[..n] } else { list }
-}
-
-// Number i of a record, or 0 where it ends before that.
-fn field(record: &[u8], i: usize) -> u32
-    requires { ⌜ i ≤ 6 ⌝ }
+// Replays the whole records at the front of a block.
+fn replay(block: &[u8]) -> Tally
+    requires { ⌜ length (now block) ≤ 65536 ⌝ }
+    ensures { λ r. ⌜ Small r ⌝ }
+    ensures { λ r. ⌜ r .left ≤ length (now (block .entry)) ⌝ }
 {
-    if i * 4 + 3 < record.len() {
-        words::word(record, i)
-    } else {
-        0
-    }
-}
-
-// How many bytes of a kind follow: at most 6144.
-fn bytes(record: &[u8], i: usize) -> usize
-    requires { ⌜ i ≤ 6 ⌝ }
-    ensures { λ r. ⌜ r ≤ 6144 ⌝ }
-{
-    let n = field(record, i) as usize;
-    if n <= 6144 { n } else { 6144 }
-}
-
-fn cut(record: &[u8], coords: &[u8], indices: &[u8], room: &mut [u8]) -> bool {
-    let a = hasplight::hasplight_triangulate_ear_clipping(coords, room);
-    if a.number != field(record, 5) {
-        return false;
-    }
-    if a.count != field(record, 6) {
-        return false;
-    }
-    same(room, indices)
-}
-
-fn merge(
-    record: &[u8],
-    coords: &[u8],
-    triangles: &[u8],
-    indices: &[u8],
-    lengths: &[u8],
-    room: &mut [u8],
-    places: &mut [u8],
-) -> bool {
-    let a = hasplight::hasplight_hertel_mehlhorn_idx(coords, triangles, room, places);
-    if a.number != field(record, 5) {
-        return false;
-    }
-    if a.count != field(record, 6) {
-        return false;
-    }
-    if !same(room, indices) {
-        return false;
-    }
-    same(places, lengths)
-}
-
-fn ask(record: &[u8], coords: &[u8], spot: &[u8], convex: bool) -> bool {
-    let x = words::float(field(spot, 0));
-    let y = words::float(field(spot, 1));
-    let v = if convex {
-        hasplight::hasplight_point_in_convex_poly2d(x, y, coords)
-    } else {
-        hasplight::hasplight_point_in_poly2d(x, y, coords)
-    };
-    if v.number != field(record, 5) {
-        return false;
-    }
-    v.answer == field(record, 6)
-}
-
-// Whether the entry gives back what a record says.
-fn agrees(record: &[u8]) -> bool {
-    let first = rest(record, 28);
-    let coords = front(first, bytes(record, 1));
-    let second = rest(first, bytes(record, 1));
-    let given = front(second, bytes(record, 2));
-    let third = rest(second, bytes(record, 2));
-    let indices = front(third, bytes(record, 3));
-    let fourth = rest(third, bytes(record, 3));
-    let lengths = front(fourth, bytes(record, 4));
-    let entry = field(record, 0);
-    let mut all = lent();
-    let room = &mut all[..bytes(record, 3)];
-    if entry == 1 {
-        return cut(record, coords, indices, room);
-    }
-    if entry == 2 {
-        let mut places = lent();
-        return merge(
-            record,
-            coords,
-            given,
-            indices,
-            lengths,
-            room,
-            &mut places[..bytes(record, 4)],
-        );
-    }
-    ask(record, coords, given, entry == 4)
-}
-
-fn missed(record: &[u8]) -> usize
-    ensures { λ r. ⌜ r ≤ 1 ⌝ }
-{
-    if agrees(record) { 0 } else { 1 }
-}
-
-fn size(record: &[u8]) -> usize
-    ensures { λ r. ⌜ 28 ≤ r ⌝ }
-{
-    28 + bytes(record, 1) + bytes(record, 2) + bytes(record, 3) + bytes(record, 4)
-}
-
-fn replay(list: &[u8]) -> Tally {
-    let mut at = 0;
-    let mut runs = 0;
+    let mut records = 0;
+    let mut inputs = 0;
     let mut different = 0;
-    while at < list.len() {
-        let record = rest(list, at);
-        let n = size(record);
-        if list.len() - at < n {
+    let mut first = 0;
+    let mut left = block.len();
+    while 28 <= left {
+        let next = record::rest(block, block.len() - left);
+        if !record::formed(next) {
             return Tally {
-                runs,
-                different: different + 1,
+                records,
+                inputs,
+                different,
+                first,
+                left,
+                end: End::NoRecord,
             };
         }
-        different += missed(record);
-        runs += 1;
-        at += n;
+        let n = record::size(next);
+        if left < n {
+            return Tally {
+                records,
+                inputs,
+                different,
+                first,
+                left,
+                end: End::Open,
+            };
+        }
+        let other = record::different(next);
+        records += 1;
+        inputs += record::inputs(next);
+        different += other;
+        first = earlier(first, records, other);
+        left -= n;
     }
-    Tally { runs, different }
+    Tally {
+        records,
+        inputs,
+        different,
+        first,
+        left,
+        end: End::Open,
+    }
+}
+
+// Moves what stands from one place up to another to the front.
+fn shift(list: &mut [u8], from: usize, to: usize)
+    requires { ⌜ (from ≤ to) × (to ≤ length (now list)) ⌝ }
+    ensures { λ r. ⌜ length (now (list .exit)) ≡ length (now (list .entry)) ⌝ }
+{
+    let mut i = from;
+    while i < to {
+        list[i - from] = list[i];
+        i += 1;
+    }
+}
+
+// Replays the whole records among the first bytes, and moves what is left of these to the front.
+fn replay_front(list: &mut [u8], n: usize) -> Tally
+    requires { ⌜ n ≤ length (now list) ⌝ }
+    requires { ⌜ length (now list) ≤ 65536 ⌝ }
+    ensures { λ r. ⌜ Small r ⌝ }
+    ensures { λ r. ⌜ r .left ≤ n ⌝ }
+    ensures { λ r. ⌜ length (now (list .exit)) ≡ length (now (list .entry)) ⌝ }
+{
+    let t = replay(&list[..n]);
+    let left = t.left;
+    shift(list, n - left, n);
+    t
+}
+
+struct Got {
+    bytes: usize,
+    failed: bool,
+}
+
+// Reads once, behind the first bytes.
+fn more(list: &mut [u8], have: usize) -> Got
+    requires { ⌜ have ≤ length (now list) ⌝ }
+    ensures { λ r. ⌜ have + r .bytes ≤ length (now (list .entry)) ⌝ }
+    ensures { λ r. ⌜ length (now (list .exit)) ≡ length (now (list .entry)) ⌝ }
+{
+    let room = &mut list[have..];
+    let got = libc::read(0, room);
+    let bytes = io::count(got, room);
+    Got {
+        bytes,
+        failed: got < 0,
+    }
+}
+
+// No records, where these bytes are left.
+fn none(left: usize, end: End) -> Tally
+    ensures { λ r. ⌜ (r .left ≡ left) × (r .first ≡ 0) × (r .records ≡ 0) × (r .inputs ≡ 0) × (r .different ≡ 0) ⌝ }
+{
+    Tally {
+        records: 0,
+        inputs: 0,
+        different: 0,
+        first: 0,
+        left,
+        end,
+    }
+}
+
+fn ended(left: usize, failed: bool) -> End {
+    if failed {
+        return End::Unread;
+    }
+    if left == 0 { End::Whole } else { End::CutOff }
+}
+
+// Reads once behind the first bytes, and replays the whole records that are there then.
+fn turn(list: &mut [u8], have: usize) -> Tally
+    requires { ⌜ have ≤ length (now list) ⌝ }
+    requires { ⌜ length (now list) ≤ 65536 ⌝ }
+    ensures { λ r. ⌜ Small r ⌝ }
+    ensures { λ r. ⌜ r .left ≤ length (now (list .entry)) ⌝ }
+    ensures { λ r. ⌜ length (now (list .exit)) ≡ length (now (list .entry)) ⌝ }
+{
+    let got = more(list, have);
+    let came = got.bytes;
+    if came == 0 {
+        return none(have, ended(have, got.failed));
+    }
+    replay_front(list, have + came)
+}
+
+// What came of some records and of those behind them.
+fn sum(t: Tally, u: Tally) -> Tally
+    requires { ⌜ (t .first ≤ t .records) × (t .records ≤ 2 ^ 62) × (t .inputs ≤ 2 ^ 63) × (t .different ≤ 2 ^ 63) ⌝ }
+    requires { ⌜ Small u ⌝ }
+    ensures { λ r. ⌜ (r .left ≡ u .left) × (r .first ≤ r .records) × (r .records ≡ t .records + u .records) × (r .inputs ≡ t .inputs + u .inputs) × (r .different ≡ t .different + u .different) ⌝ }
+{
+    let end = u.end;
+    Tally {
+        records: t.records + u.records,
+        inputs: t.inputs + u.inputs,
+        different: t.different + u.different,
+        first: earlier(t.first, t.records + u.first, u.first),
+        left: u.left,
+        end,
+    }
+}
+
+fn is_open(t: Tally) -> bool {
+    let end = t.end;
+    match end {
+        End::Open => true,
+        _ => false,
+    }
+}
+
+// A proved loop has to end, and nothing says that the input does: it is read at most 2^36 times.
+fn replay_all(list: &mut [u8]) -> Tally
+    requires { ⌜ length (now list) ≤ 65536 ⌝ }
+{
+    let mut t = none(0, End::Open);
+    let mut reads = 0usize;
+    while reads < 68719476736 && is_open(t) {
+        t = sum(t, turn(list, t.left));
+        reads += 1;
+    }
+    t
+}
+
+fn text(words: &[u8]) {
+    io::write_all(1, words);
+}
+
+fn behind(records: usize, words: &[u8]) {
+    text(b"; behind record ");
+    io::print_decimal(1, records as u64);
+    text(words);
 }
 
 fn main() {
     let mut list = io::large_buffer();
-    let n = io::read_full(0, &mut list);
-    let t = replay(&list[..n]);
-    io::print_decimal(1, t.runs as u64);
-    io::write_all(1, b" inputs of the list, ");
+    let t = replay_all(&mut list);
+    io::print_decimal(1, t.inputs as u64);
+    text(b" inputs compared, ");
     io::print_decimal(1, t.different as u64);
-    io::write_all(1, b" answered differently\n");
+    text(b" differ");
+    if 0 < t.first {
+        text(b", the first in record ");
+        io::print_decimal(1, t.first as u64);
+    }
+    let end = t.end;
+    match end {
+        End::Open => behind(t.records, b" the input goes on"),
+        End::Whole => text(b""),
+        End::CutOff => behind(t.records, b" the input is cut off"),
+        End::NoRecord => behind(t.records, b" stands no record"),
+        End::Unread => behind(t.records, b" the input cannot be read"),
+    }
+    text(b"\n");
 }

@@ -1,75 +1,38 @@
-//! list: a sample of inputs with what must come back, at most 65536 bytes, for the program `replay`. See crates/replay/LIST.md.
-use oracle::expected;
+//! list: a sample of inputs with what must come back, and some roots, for the program `replay`. See crates/replay/LIST.md.
+use oracle::expected::MOST;
+use oracle::inputs::Side;
 use oracle::lent::{bytes_of, bytes_of_floats};
 use oracle::random::Random;
+use oracle::records::Records;
 use oracle::shapes::{coords, KINDS};
 use std::io::Write;
 
-const FILL: u8 = 90;
-
-struct List(Vec<u8>);
-
-impl List {
-    /// Entry, bytes, number, count or answer.
-    fn record(&mut self, entry: u32, parts: [&[u8]; 4], number: u32, count: u32) {
-        let sizes = parts.map(|p| p.len() as u32);
-        let head = [entry, sizes[0], sizes[1], sizes[2], sizes[3], number, count];
-        let size = 28 + parts.iter().map(|p| p.len()).sum::<usize>();
-        if self.0.len() + size <= 65536 {
-            self.0.extend(bytes_of(&head));
-            parts.iter().for_each(|p| self.0.extend(*p));
-        }
-    }
-
-    fn cut(&mut self, coords: &[u8], room: usize) -> Vec<u8> {
-        let mut indices = vec![FILL; room];
-        let a = expected::triangulate_ear_clipping(coords, &mut indices);
-        self.record(1, [coords, &[], &indices, &[]], a.number, a.count);
-        indices.truncate(12 * a.count as usize);
-        indices
-    }
-
-    fn merge(&mut self, coords: &[u8], triangles: &[u8], room: usize, places: usize) {
-        let (mut indices, mut lengths) = (vec![FILL; room], vec![FILL; places]);
-        let a = expected::hertel_mehlhorn_idx(coords, triangles, &mut indices, &mut lengths);
-        self.record(2, [coords, triangles, &indices, &lengths], a.number, a.count);
-    }
-
-    fn ask(&mut self, x: f32, y: f32, coords: &[u8]) {
-        let spot = bytes_of_floats(&[x, y]);
-        let v = expected::point_in_poly2d(x, y, coords);
-        self.record(3, [coords, &spot, &[], &[]], v.number, v.answer);
-        let v = expected::point_in_convex_poly2d(x, y, coords);
-        self.record(4, [coords, &spot, &[], &[]], v.number, v.answer);
-    }
-
-    /// An outline cut with this much room to spare, merged, and asked at a corner and beside it.
-    fn outline(&mut self, floats: &[f32], spare: isize) {
-        let bytes = bytes_of_floats(floats);
-        let room = (6 * floats.len() as isize - 24 + spare).max(0) as usize;
-        let triangles = self.cut(&bytes, room);
-        self.merge(&bytes, &triangles, triangles.len() + 5, triangles.len() / 3 + 2);
-        if floats.len() >= 2 {
-            self.ask(floats[0], floats[1], &bytes);
-            self.ask(floats[0] + 1.0, floats[1], &bytes);
-        }
+/// An outline cut with this much room to spare, merged, and asked at a corner and beside it.
+fn outline(side: &mut impl Side, floats: &[f32], spare: isize) {
+    let bytes = bytes_of_floats(floats);
+    let room = (6 * floats.len() as isize - 24 + spare).max(0) as usize;
+    let triangles = side.cut(&bytes, room).unwrap_or_default();
+    side.merge(&bytes, &triangles, triangles.len() + 5, triangles.len() / 3 + 2);
+    if floats.len() >= 2 {
+        side.ask(floats[0], floats[1], &bytes);
+        side.ask(floats[0] + 1.0, floats[1], &bytes);
     }
 }
 
-fn edges(list: &mut List) {
+fn edges(list: &mut impl Side) {
     let square = [0.0, 0.0, 4.0, 0.0, 4.0, 4.0, 0.0, 4.0];
     let special = [1024.0, 1025.0, 0.5, -0.0, 1.0e-45, f32::NAN, f32::INFINITY, f32::NEG_INFINITY];
     for f in special {
         let mut changed = square;
         changed[1] = f;
-        list.outline(&changed, 7);
+        outline(list, &changed, 7);
         list.ask(f, 2.0, &bytes_of_floats(&square));
     }
     for n in 0..=square.len() {
-        list.outline(&square[..n], 0);
+        outline(list, &square[..n], 0);
     }
     for spare in [-5, -4, -1, 1, 3] {
-        list.outline(&square, spare);
+        outline(list, &square, spare);
     }
     let bytes = bytes_of_floats(&square);
     for triangles in [&[0u32, 1][..], &[0, 1, 4], &[0, 1, 2, 0], &[0, 1, 2, 2, 1, 0], &[1, 1, 1, 1, 1, 1], &[u32::MAX, 0, 0]] {
@@ -82,17 +45,26 @@ fn edges(list: &mut List) {
 }
 
 fn main() {
-    let mut list = List(Vec::new());
-    edges(&mut list);
+    let mut list: Vec<u8> = Vec::new();
+    // of these, as many as 65536 bytes hold
+    let mut side = Records::new(|_, record: &[u8]| {
+        if list.len() + record.len() <= 65536 {
+            list.extend(record);
+        }
+    });
+    edges(&mut side);
     for (_, shape) in KINDS {
-        list.outline(&coords(&shape(16)), 8);
-        list.outline(&coords(&shape(30)), 0);
+        outline(&mut side, &coords(&shape(16)), 8);
+        outline(&mut side, &coords(&shape(30)), 0);
     }
     let mut r = Random::new(7);
     for _ in 0..400 {
         let n = 3 + r.below(6);
-        let outline: Vec<f32> = (0..2 * n).map(|_| r.within(-3, 3) as f32).collect();
-        list.outline(&outline, 0);
+        let floats: Vec<f32> = (0..2 * n).map(|_| r.within(-3, 3) as f32).collect();
+        outline(&mut side, &floats, 0);
     }
-    std::io::stdout().write_all(&list.0).expect("standard output takes the list");
+    let mut roots = Records::new(|_, record: &[u8]| list.extend(record));
+    roots.roots(0, 2048);
+    roots.roots(MOST - 64, 129);
+    std::io::stdout().write_all(&list).expect("standard output takes the list");
 }

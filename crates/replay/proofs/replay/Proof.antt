@@ -1,5 +1,5 @@
--- `replay` is safe and ends: each record has at least 28 bytes.
-use Prim.Native.Nat.{_-_, _≤_}
+-- `replay` is safe and ends: each record has at least 28 bytes, and at most 2048 inputs.
+use Prim.Native.Nat.{_+_, _*_, _≤_}
 use native.Mathlib.Omega.{arith}
 use lib.ListN.{length}
 use borrow.Author.Needs.{needs}
@@ -7,49 +7,63 @@ use Rattle.replay.proofs.replay.Statement.{statement}
 use Rattle.replay.proofs.replay.Tie as tie
 
 abbrev Inv-loop : tie.InvT-loop
-Inv-loop list at₀ runs₀ different₀ at runs different = (at ≤ length list) × (runs ≤ at) × (different ≤ at)
+Inv-loop block records₀ inputs₀ different₀ first₀ left₀ records inputs different first left =
+    (left ≤ length block)
+    × (first ≤ records)
+    × (records + left ≤ length block)
+    × (inputs + 2048 * left ≤ 2048 * length block)
+    × (different + 2048 * left ≤ 2048 * length block)
 
 abbrev μ-loop : tie.MeasureT-loop
-μ-loop list at₀ runs₀ different₀ at runs different = length list - at
+μ-loop block records₀ inputs₀ different₀ first₀ left₀ records inputs different first left = left
 
 loop-holds : tie.Need-loop-holds Inv-loop μ-loop
-loop-holds c = (omega arith, omega arith, omega arith)
+loop-holds c = omega arith
+
+sub-rest : tie.Need-sub-rest Inv-loop μ-loop
+sub-rest c = omega arith
 
 rest-requires : tie.Need-rest-requires Inv-loop μ-loop
 rest-requires c κs = search needs
 
+formed-requires : tie.Need-formed-requires Inv-loop μ-loop
+formed-requires c κs = search needs
+
+returns : tie.Need-returns Inv-loop μ-loop
+returns c = (omega arith, omega arith)
+
 size-requires : tie.Need-size-requires Inv-loop μ-loop
 size-requires c κs = search needs
 
-sub-if1 : tie.Need-sub-if1 Inv-loop μ-loop
-sub-if1 c = omega arith
+returns-2 : tie.Need-returns-2 Inv-loop μ-loop
+returns-2 c = (omega arith, omega arith)
 
-add-t10 : tie.Need-add-t10 Inv-loop μ-loop
-add-t10 c = omega arith
+different-requires : tie.Need-different-requires Inv-loop μ-loop
+different-requires c κs = search needs
 
-returns : tie.Need-returns Inv-loop μ-loop
-returns c = search needs
+add-records : tie.Need-add-records Inv-loop μ-loop
+add-records c = omega arith
 
-missed-requires : tie.Need-missed-requires Inv-loop μ-loop
-missed-requires c κs = search needs
+inputs-requires : tie.Need-inputs-requires Inv-loop μ-loop
+inputs-requires c κs = search needs
+
+add-inputs : tie.Need-add-inputs Inv-loop μ-loop
+add-inputs c = omega arith
 
 add-different : tie.Need-add-different Inv-loop μ-loop
 add-different c = omega arith
 
-add-runs : tie.Need-add-runs Inv-loop μ-loop
-add-runs c = omega arith
-
-add-at : tie.Need-add-at Inv-loop μ-loop
-add-at c = omega arith
+earlier-requires : tie.Need-earlier-requires Inv-loop μ-loop
+earlier-requires c κs = omega arith
 
 loop-less : tie.Need-loop-less Inv-loop μ-loop
 loop-less c = omega arith
 
 loop-again : tie.Need-loop-again Inv-loop μ-loop
-loop-again c = (omega arith, omega arith, omega arith)
+loop-again c = omega arith
 
-returns-2 : tie.Need-returns-2 Inv-loop μ-loop
-returns-2 c = search needs
+returns-3 : tie.Need-returns-3 Inv-loop μ-loop
+returns-3 c = (omega arith, omega arith)
 
 pub replay-spec : {M : Type 1} → statement M
 replay-spec =
@@ -58,15 +72,18 @@ replay-spec =
     Inv-loop
     μ-loop
     loop-holds
+    sub-rest
     rest-requires
-    size-requires
-    sub-if1
-    add-t10
+    formed-requires
     returns
-    missed-requires
+    size-requires
+    returns-2
+    different-requires
+    add-records
+    inputs-requires
+    add-inputs
     add-different
-    add-runs
-    add-at
+    earlier-requires
     loop-less
     loop-again
-    returns-2)
+    returns-3)

@@ -3,8 +3,8 @@ use Prim.Native.Nat.{_-_, _≤_}
 use native.Mathlib.Omega.{arith}
 use lib.ListN.{length}
 use borrow.Author.Needs.{needs}
-use Rattle.replay.proofs.same.Statement.{statement}
-use Rattle.replay.proofs.same.Tie as tie
+use Rattle.replay.proofs.record.same.Statement.{statement}
+use Rattle.replay.proofs.record.same.Tie as tie
 
 abbrev Inv-loop : tie.InvT-loop
 Inv-loop a b i₀ i = i ≤ length a

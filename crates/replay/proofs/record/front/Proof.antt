@@ -2,8 +2,8 @@
 use mathlib.Core.Path.{sym}
 use lib.Seq.{length-take-le}
 use borrow.Author.Needs.{needs}
-use Rattle.replay.proofs.front.Statement.{statement}
-use Rattle.replay.proofs.front.Tie as tie
+use Rattle.replay.proofs.record.front.Statement.{statement}
+use Rattle.replay.proofs.record.front.Tie as tie
 
 slice-aggregate-result : tie.Need-slice-aggregate-result
 slice-aggregate-result c = sym (length-take-le _ _ (c .before .if1 .taken))
