@@ -34,9 +34,6 @@ pub sub-canon : (f : Format) (a : ℤ) {y : Float} {b : ℤ} → natAbs a ≤ 2 
 unfolding sub
 sub-canon f a {y} {b} h j = add-canon f (ofInt f a) (neg y) a (negℤ b) (ofInt-is f a h) (neg-is y b j) (λ z. no-neg0 f a h (z .0) (z .1))
 
-pub sub-ofInt : (f : Format) (a b : ℤ) → natAbs a ≤ 2 ^ prec f → natAbs b ≤ 2 ^ prec f → sub f (ofInt f a) (ofInt f b) ≡ ofInt f (a -ℤ b)
-sub-ofInt f a b h k = sub-canon f a h (ofInt-is f b k)
-
 pub add-ofInt : (f : Format) (a b : ℤ) → natAbs a ≤ 2 ^ prec f → natAbs b ≤ 2 ^ prec f → add f (ofInt f a) (ofInt f b) ≡ ofInt f (a +ℤ b)
 add-ofInt f a b h k = add-canon f (ofInt f a) (ofInt f b) a b (ofInt-is f a h) (ofInt-is f b k) (λ z. no-neg0 f a h (z .0) (z .1))
 

@@ -46,8 +46,11 @@ rooms c = c .before .before .before
 abbrev lent-on : tie.After-hertel-mehlhorn-idx → tie.After-least2
 lent-on c = rooms c .before .before
 
+abbrev known : tie.After-least2 → tie.After-shared-slice-known2
+known c = let least = c .before in least .before .before .before
+
 abbrev start : tie.After-hertel-mehlhorn-idx → tie.Start
-start c = let least = lent-on c .before in least .before .before .before .before .before
+start c = known (lent-on c) .before .before
 
 lent :
     (c : tie.After-hertel-mehlhorn-idx)

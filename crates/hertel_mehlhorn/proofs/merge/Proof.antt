@@ -18,7 +18,8 @@ use Rattle.hertel_mehlhorn.proofs.merge.Statement.{statement}
 use Rattle.hertel_mehlhorn.proofs.merge.Tie as tie
 
 abbrev Inv-loop : tie.InvT-loop
-Inv-loop coords triangles indices lengths total₀ count₀ store₀ lens₀ old₀ sizes₀ a₀ at₀ total count store lens old sizes a at = Work (pointsOf coords) (triples triangles) (length triangles) (length triangles / 3) store lens count total a at × (length old ≡ mostIndices) × (length sizes ≡ mostTriangles)
+Inv-loop coords triangles indices lengths total₀ count₀ store₀ lens₀ old₀ sizes₀ a₀ at₀ total count store lens old sizes a at =
+    Work (pointsOf coords) (triples triangles) (length triangles) (length triangles / 3) store lens count total a at × (length old ≡ mostIndices) × (length sizes ≡ mostTriangles)
 
 abbrev μ-loop : tie.MeasureT-loop
 μ-loop coords triangles indices lengths total₀ count₀ store₀ lens₀ old₀ sizes₀ a₀ at₀ total count store lens old sizes a at = count - a

@@ -28,7 +28,9 @@ wide-requires : tie.Need-wide-requires Inv-loop μ-loop
 wide-requires c κs = search needs
 
 returns : tie.Need-returns Inv-loop μ-loop
-returns c = sym (c .before .before .before .before .loop .inv .1 ∙ range-out _ _ _ (c .before .before .before .loop-test .taken) (rw (c .before .wide .ensures) at (c .if1 .taken)))
+returns c =
+    let turn = c .before .before .before in
+    sym (turn .before .loop .inv .1 ∙ range-out _ _ _ (turn .loop-test .taken) (rw (c .before .wide .ensures) at (c .if1 .taken)))
 
 add-i : tie.Need-add-i Inv-loop μ-loop
 add-i c = search needs
@@ -37,7 +39,9 @@ loop-less : tie.Need-loop-less Inv-loop μ-loop
 loop-less c = search needs
 
 loop-again : tie.Need-loop-again Inv-loop μ-loop
-loop-again c = (omega arith, c .before .before .before .before .loop .inv .1 ∙ range-more _ _ _ (c .before .before .before .loop-test .taken) (rw (c .before .wide .ensures) at (c .if1 .left)))
+loop-again c =
+    let turn = c .before .before .before in
+    (omega arith, turn .before .loop .inv .1 ∙ range-more _ _ _ (turn .loop-test .taken) (rw (c .before .wide .ensures) at (c .if1 .left)))
 
 returns-2 : tie.Need-returns-2 Inv-loop μ-loop
 returns-2 c = sym (c .before .loop .inv .1 ∙ range-end _ _ _ (c .loop-test .left))

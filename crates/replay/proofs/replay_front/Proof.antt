@@ -30,7 +30,9 @@ same-length : tie.Need-same-length
 same-length c = search needs
 
 returns : tie.Need-returns
-returns c = (omega arith, (omega (arith, lent (c .before .before .before .before .before)), omega arith))
+returns c =
+    let moved = c .before .before .before in
+    (omega arith, (omega (arith, lent (moved .before .before)), omega arith))
 
 pub replay-front-spec : {M : Type 1} → statement M
 replay-front-spec =
