@@ -172,17 +172,12 @@ pub fn ask_convex(name: &[u8], x: f32, y: f32, coords: &[f32]) {
     verdict(name, point_in_convex_poly2d(x, y, coords));
 }
 
-// The bits of a float that is not below zero.
-fn bits(r: f32) -> u32 {
-    if r >= 0.0 { f32::to_bits(r) } else { 0 }
-}
-
 // The root of m, which is 1 or more and less than 2, as a multiple of 2^-23.
 pub fn root(name: &[u8], m: u32) {
     begin(name);
     if m <= 8388608 {
         text(b" ");
-        number(bits(root::root(m)) % 8388608 + 8388608);
+        number(words::bits(root::root(m)) % 8388608 + 8388608);
     }
     text(b"\n");
 }
@@ -230,7 +225,7 @@ pub fn roots() {
         if m <= 8388608 {
             number(m);
             text(b": ");
-            number(bits(root::root(m)));
+            number(words::bits(root::root(m)));
             text(b"\n");
         }
         i += 1;

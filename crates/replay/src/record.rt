@@ -149,15 +149,10 @@ fn ask(record: &[u8], coords: &[u8], spot: &[u8], convex: bool) -> bool {
     v.answer == number(record, 6)
 }
 
-// The bits of a float that is not below zero.
-fn bits(r: f32) -> u32 {
-    if r >= 0.0 { f32::to_bits(r) } else { 1 }
-}
-
 fn other_root(m: u32, root: u32) -> usize
     ensures { λ r. ⌜ r ≤ 1 ⌝ }
 {
-    if bits(radicands::hasplight_root(m)) == root {
+    if words::bits(radicands::hasplight_root(m)) == root {
         0
     } else {
         1

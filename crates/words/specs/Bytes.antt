@@ -2,7 +2,9 @@
 use Prim.Native.Nat.{ℕ, _+_, _*_, _/_, _%_}
 use mathlib.Core.List.{List, [], _∷_, map}
 use lib.ListN.{getD, set}
-use lib.Ieee.{Float, binary32, ofBits}
+use mathlib.Core.Bool.{false, cond}
+use lib.IntN.{pos}
+use lib.Ieee.{Float, fin, binary32, ofBits, toBits, le}
 
 unfoldable pub wordsOf : List ℕ → List ℕ
 wordsOf [] = []
@@ -19,6 +21,10 @@ floatsOf bytes = map (ofBits binary32) (wordsOf bytes)
 unfoldable pub bytesOf : List ℕ → List ℕ
 bytesOf [] = []
 bytesOf (w ∷ rest) = (w % 256) ∷ (w / 256 % 256) ∷ (w / 65536 % 256) ∷ (w / 16777216 % 256) ∷ bytesOf rest
+
+-- the bits of a float that is not below zero, and all bits for any other
+abbrev pub bitsOf : Float → ℕ
+bitsOf x = cond (le (fin false 0 (pos 0)) x) (toBits binary32 x) 4294967295
 
 -- ---- the code's steps
 

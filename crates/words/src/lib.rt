@@ -6,7 +6,7 @@ ghost use Prim.Native.Nat.{_+_, _*_, _/_, _≤_, _<_};
 ghost use lib.ListN.{length, take, drop};
 ghost use lib.Ieee.{binary32, ofBits};
 ghost use Rattle.rules.specs.Layout.{over};
-ghost use Rattle.words.specs.Bytes.{wordAt, wordsOf, floatsOf, bytesOf, put4};
+ghost use Rattle.words.specs.Bytes.{wordAt, wordsOf, floatsOf, bytesOf, bitsOf, put4};
 
 // Copies all of `from` to the front of `to`.
 pub fn copy(from: &[u32], to: &mut [u32])
@@ -41,6 +41,17 @@ pub fn float(bits: u32) -> f32
         return 0.0 / 0.0;
     }
     f32::from_bits(bits)
+}
+
+// The bits of a float that is not below zero, and all bits for any other.
+pub fn bits(x: f32) -> u32
+    ensures { λ r. ⌜ r ≡ bitsOf x ⌝ }
+{
+    if x >= 0.0 {
+        f32::to_bits(x)
+    } else {
+        4294967295
+    }
 }
 
 // Reads the words, as floats, to the front of `floats`.
