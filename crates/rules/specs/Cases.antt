@@ -120,6 +120,11 @@ table =
     ∷ measuring (whole (2 ∷ 1 ∷ 4 ∷ 0 ∷ 2 ∷ 4 ∷ [])) (pos 6)
     ∷ measuring (whole (2 ∷ 4 ∷ 0 ∷ 0 ∷ 2 ∷ 1 ∷ [])) (pos 6)
     ∷ measuring P-backwards (negℤ (pos 32))
+    -- the root of 5 is rounded up; those of 0, of 4, and of the greatest m
+    ∷ rooting 5 (Ieee.round binary32 false 9378749 (2 ^ 22))
+    ∷ rooting 0 (f 0)
+    ∷ rooting 4 (f 2)
+    ∷ rooting (2 ^ 23) (Ieee.round binary32 false 11863283 (2 ^ 12))
     -- a clockwise outline of three is accepted: the last three are not tested for being an ear
     ∷ cut-into T-backwards 3 1 (2 ∷ 0 ∷ 1 ∷ [])
     -- corner 1, which is cut first, still blocks corner 4
