@@ -214,6 +214,30 @@ module _ (may : JoinTest) (most : ℕ) where
 pub steps-merge : (may : JoinTest) (pieces : List (List ℕ)) → Ends may (begin pieces) (enoughSteps pieces) (merge may pieces)
 steps-merge may pieces = to-end may (all-corners pieces) (length pieces) [] pieces refl (omega arith)
 
+-- ---- what an end says
+
+run-further : (may : JoinTest) (n m : ℕ) (state : State) → run may (n + m) state ≡ run may m (run may n state)
+unfolding run
+run-further may zero m state = let e : 0 + m ≡ m = omega arith in rw e
+run-further may (suc n) m state = let e : suc n + m ≡ suc (n + m) = omega arith in rw e (run-further may n m (step may state))
+
+-- as many steps as the end allows lead there
+pub at-end : {may : JoinTest} {state : State} {n : ℕ} {pieces : List (List ℕ)} → Ends may state n pieces → run may n state ≡ finished pieces
+at-end {may} {state} {n} h =
+    let e : h .steps + (n - h .steps) ≡ n = omega (arith, h .at-most) in
+    ap (λ (k : ℕ). run may k state) (sym e) ∙ run-further may (h .steps) (n - h .steps) state ∙ ap (run may (n - h .steps)) (h .ended) ∙ h .stays (n - h .steps)
+
+-- the steps end with one list of pieces and no other
+pub end-unique : {may : JoinTest} {state : State} {n m : ℕ} {pieces others : List (List ℕ)} → Ends may state n pieces → Ends may state m others → pieces ≡ others
+end-unique {may} {state} h k =
+    let e : h .steps + k .steps ≡ k .steps + h .steps = omega arith in
+    let one = run-further may (h .steps) (k .steps) state ∙ ap (run may (k .steps)) (h .ended) ∙ h .stays (k .steps) in
+    let two = run-further may (k .steps) (h .steps) state ∙ ap (run may (h .steps)) (k .ended) ∙ k .stays (h .steps) in
+    ap (λ (s : State). s .pieces) (sym one ∙ ap (λ (n : ℕ). run may n state) e ∙ two)
+
+pub run-merge : (may : JoinTest) (pieces : List (List ℕ)) → run may (enoughSteps pieces) (begin pieces) ≡ finished (merge may pieces)
+run-merge may pieces = at-end (steps-merge may pieces)
+
 -- an accepted merge has written what the steps from the given triangles end with
 pub written-steps :
     (cs : List Float) (triangles out lens : List ℕ) → merger cs triangles out lens .number ≡ 0
