@@ -1,5 +1,5 @@
 -- Document 01, "Twelve small cases", as one table: what is lent to which entry, and everything that comes back.
--- Behind the twelve, cases for the slips of "Slips that look right", the edge of the grid, each refusal and the order of the refusals.
+-- Behind the twelve, cases for "Slips that look right", the edge of the grid, the choice of the ear, the joins, and each refusal and their order.
 use Prim.Native.Nat.{ℕ, _^_}
 use mathlib.Core.Path.{_≡_}
 use mathlib.Core.Bool.{Bool, true, false}
@@ -13,7 +13,7 @@ use Rattle.rules.specs.Measure.{area2}
 use Rattle.rules.specs.Root.{root}
 use Rattle.rules.specs.Entries.{Cutting, Merging, Asking, cutter, merger, pointInPoly2d, pointInConvexPoly2d}
 
--- coordinates and lent slices, with what comes back; of both point tests what comes back from either
+-- what is lent and everything that comes back; `asking-both-at` has the outline test's answer, then the convex test's
 pub data Case : Type 0 where
   cutting : List Float → List ℕ → Cutting → Case
   merging : List Float → List ℕ → List ℕ → List ℕ → Merging → Case
@@ -154,23 +154,23 @@ table =
     ∷ cut-refused (whole (2 ∷ 0 ∷ 0 ∷ 0 ∷ 0 ∷ 1 ∷ 1 ∷ 0 ∷ 1 ∷ 1 ∷ [])) 9 7
     -- four corners on a line
     ∷ cut-refused (whole (0 ∷ 0 ∷ 1 ∷ 0 ∷ 2 ∷ 0 ∷ 3 ∷ 0 ∷ [])) 6 7
-    -- the cutter: each refusal, and before it, in pairs, that of two the earlier is given. No coordinate: 2; one: 1 before 2
+    -- the refusals of the cutter, and of two that apply the earlier: 1 before 2 and 3, 2 before 4
     ∷ cut-refused [] 0 2
     ∷ cut-refused (whole (0 ∷ [])) 0 1
     ∷ cut-refused (whole (0 ∷ 0 ∷ 4 ∷ 0 ∷ 0 ∷ 4 ∷ 0 ∷ [])) 3 1
     ∷ cut-refused (replicate 1027 (f 0)) 3 1
     ∷ cut-refused (whole (0 ∷ 0 ∷ 4 ∷ 0 ∷ [])) 3 2
     ∷ cut-refused (nan ∷ f 0 ∷ f 4 ∷ f 0 ∷ []) 3 2
-    -- 512 points are not too many, and 513 are: 5 for 512 equal ones, 3 for 513, off the grid or not
+    -- 512 points and 513: 3 before 4
     ∷ cut-refused (replicate 1024 (f 0)) 3 5
     ∷ cut-refused (replicate 1026 (f 0)) 3 3
     ∷ cut-refused (replicate 1026 nan) 3 3
-    -- 4 before 5; 5 for the last corner and the first, and before 6; 6 before 7
+    -- 4 before 5; 5 for the last corner and the first; 5 before 6, 6 before 7
     ∷ cut-refused (nan ∷ f 0 ∷ f 4 ∷ f 0 ∷ f 4 ∷ f 0 ∷ []) 3 4
     ∷ cut-refused (whole (0 ∷ 0 ∷ 4 ∷ 0 ∷ 4 ∷ 4 ∷ 0 ∷ 0 ∷ [])) 6 5
     ∷ cut-refused (whole (0 ∷ 0 ∷ 0 ∷ 0 ∷ 4 ∷ 0 ∷ [])) 0 5
     ∷ cut-refused P-backwards 5 6
-    -- the merger: a join is refused for a right turn at s or at e, and not for a straight one
+    -- a join is refused for a right turn at s or at e, and not for a straight one
     ∷ merged-into Q (3 ∷ 0 ∷ 1 ∷ 1 ∷ 2 ∷ 3 ∷ []) 6 2 2 (3 ∷ 0 ∷ 1 ∷ 1 ∷ 2 ∷ 3 ∷ []) (3 ∷ 3 ∷ [])
     ∷ merged-into Q-flat (1 ∷ 2 ∷ 3 ∷ 3 ∷ 0 ∷ 1 ∷ []) 6 2 1 (1 ∷ 2 ∷ 3 ∷ 0 ∷ 9 ∷ 9 ∷ []) (4 ∷ 9 ∷ [])
     ∷ merged-into Q-flat (3 ∷ 0 ∷ 1 ∷ 1 ∷ 2 ∷ 3 ∷ []) 6 2 1 (3 ∷ 0 ∷ 1 ∷ 2 ∷ 9 ∷ 9 ∷ []) (4 ∷ 9 ∷ [])
@@ -188,7 +188,7 @@ table =
     -- an empty list is no pieces, and lent slots are as they were
     ∷ merged-into [] [] 0 0 0 [] []
     ∷ merged-into P [] 2 1 0 (nines 2) (nines 1)
-    -- the merger: each refusal, and that of two the earlier is given: 1, 3, 4, 8, 10, 9, 6
+    -- the refusals of the merger, and of two that apply the earlier: 1 before 3, 3 before 4, 4 before 8
     ∷ merge-refused (whole (0 ∷ [])) [] 0 0 1
     ∷ merge-refused (replicate 1027 (f 0)) [] 0 0 1
     ∷ merged-into (replicate 1024 (f 0)) [] 0 0 0 [] []
@@ -203,18 +203,18 @@ table =
     ∷ merge-refused (nan ∷ f 0 ∷ []) (0 ∷ []) 2 2 4
     ∷ merge-refused P (0 ∷ []) 3 1 8
     ∷ merge-refused P (0 ∷ 1 ∷ 2 ∷ 3 ∷ 0 ∷ []) 6 2 8
-    -- 510 triangles are not too many, 511 are; 1531 indices are no triangles
+    -- 510 triangles and 511: 8 before 10, 10 before 9
     ∷ merge-refused P (replicate 1530 0) 0 0 6
     ∷ merge-refused P (replicate 1531 0) 1533 511 8
     ∷ merge-refused P (replicate 1533 0) 1533 511 10
     ∷ merge-refused P (replicate 1534 0) 1533 511 8
     ∷ merge-refused [] (replicate 1533 0) 1533 511 10
-    -- an index that is the number of points; 9 before 6; no room for indices, and none for lengths
+    -- an index that is the number of points; 9 before 6; too little room for indices, and for lengths
     ∷ merge-refused P (0 ∷ 1 ∷ 4 ∷ []) 3 1 9
     ∷ merge-refused P (0 ∷ 1 ∷ 4 ∷ []) 2 0 9
     ∷ merge-refused P (2 ∷ 3 ∷ 0 ∷ 2 ∷ 0 ∷ 1 ∷ []) 5 2 6
     ∷ merge-refused P (2 ∷ 3 ∷ 0 ∷ 2 ∷ 0 ∷ 1 ∷ []) 6 1 6
-    -- the point tests inside, outside, at corners and on the border
+    -- both point tests, of which the first answer is the outline test: inside, outside, at corners and on the border
     ∷ both-answered (f 2) (f 2) P true true
     ∷ both-answered (f 5) (f 2) P false false
     ∷ both-answered (f 2) (f 5) P false false
@@ -228,7 +228,7 @@ table =
     ∷ both-answered (f 4) (f 2) P false true
     ∷ both-answered (f 2) (f 0) P true true
     ∷ both-answered (f 2) (f 4) P false true
-    -- backwards, and where the outline is hollow: below corner 1 of Q
+    -- backwards; in the hollow of Q and around it; directly beside an outline
     ∷ both-answered (f 2) (f 2) P-backwards true true
     ∷ both-answered (f 0) (f 2) P-backwards true true
     ∷ both-answered (f 4) (f 2) P-backwards false true
@@ -237,13 +237,14 @@ table =
     ∷ both-answered (f 2) (f 2) Q true true
     ∷ both-answered (f 1) (f 1) Q true false
     ∷ both-answered (f 3) (f 1) Q true false
+    ∷ both-answered (f- 1) (f 0) (whole (0 ∷ 0 ∷ 1 ∷ 0 ∷ 0 ∷ 1 ∷ [])) false false
     -- no corners: no. One corner: the convex test says yes to every point. Two: to those on their line
     ∷ both-answered (f 0) (f 0) [] false false
     ∷ both-answered (f 3) (f 2) (whole (0 ∷ 0 ∷ [])) false true
     ∷ both-answered (f 0) (f 0) (whole (0 ∷ 0 ∷ [])) false true
     ∷ both-answered (f 4) (f 2) (whole (0 ∷ 0 ∷ 2 ∷ 1 ∷ [])) false true
     ∷ both-answered (f 4) (f 3) (whole (0 ∷ 0 ∷ 2 ∷ 1 ∷ [])) false false
-    -- the limits of the grid, and minus zero
+    -- at the edge of the grid, and at minus zero
     ∷ both-answered (f 1024) (f- 1024) widest false true
     ∷ both-answered minus-zero (f 2) P true true
     ∷ both-answered (f 2) minus-zero P true true
@@ -262,7 +263,7 @@ table =
     ∷ both-refused (f 2) (inf true) P 4
     ∷ both-refused (f 2) (f 2) (P ++ (f 2 ∷ f 1025 ∷ [])) 4
     ∷ both-refused (f 2) (f 2) (P ++ (nan ∷ f 2 ∷ [])) 4
-    -- the point tests: 1, 3, 4
+    -- the refusals of the point tests, and of two that apply the earlier: 1 before 3 and 4, 3 before 4
     ∷ both-refused (f 2) (f 2) (P ++ (f 0 ∷ [])) 1
     ∷ both-refused (f 2) (f 2) (replicate 1027 (f 0)) 1
     ∷ both-refused nan (f 2) (P ++ (f 0 ∷ [])) 1
