@@ -133,8 +133,9 @@ table =
     ∷ cut-into widest 3 1 (2 ∷ 0 ∷ 1 ∷ [])
     ∷ cut-into (minus-zero ∷ f 0 ∷ f 4 ∷ minus-zero ∷ f 4 ∷ f 4 ∷ f 0 ∷ f 4 ∷ []) 6 2 (2 ∷ 3 ∷ 0 ∷ 2 ∷ 0 ∷ 1 ∷ [])
     ∷ cut-refused (f 0 ∷ f 0 ∷ minus-zero ∷ f 0 ∷ f 4 ∷ f 0 ∷ []) 3 5
-    -- 1025 and -1025, fractions, NaN and the infinities are off it, in any place
+    -- 1025 and -1025, 2048, fractions, NaN and the infinities are off it, in any place
     ∷ cut-refused (f 1025 ∷ f 0 ∷ f 4 ∷ f 0 ∷ f 0 ∷ f 4 ∷ []) 3 4
+    ∷ cut-refused (f 2048 ∷ f 0 ∷ f 4 ∷ f 0 ∷ f 0 ∷ f 4 ∷ []) 3 4
     ∷ cut-refused (f- 1025 ∷ f 0 ∷ f 4 ∷ f 0 ∷ f 0 ∷ f 4 ∷ []) 3 4
     ∷ cut-refused (half ∷ f 0 ∷ f 4 ∷ f 0 ∷ f 0 ∷ f 4 ∷ []) 3 4
     ∷ cut-refused (nan ∷ f 0 ∷ f 4 ∷ f 0 ∷ f 0 ∷ f 4 ∷ []) 3 4
@@ -174,11 +175,16 @@ table =
     ∷ merged-into Q (3 ∷ 0 ∷ 1 ∷ 1 ∷ 2 ∷ 3 ∷ []) 6 2 2 (3 ∷ 0 ∷ 1 ∷ 1 ∷ 2 ∷ 3 ∷ []) (3 ∷ 3 ∷ [])
     ∷ merged-into Q-flat (1 ∷ 2 ∷ 3 ∷ 3 ∷ 0 ∷ 1 ∷ []) 6 2 1 (1 ∷ 2 ∷ 3 ∷ 0 ∷ 9 ∷ 9 ∷ []) (4 ∷ 9 ∷ [])
     ∷ merged-into Q-flat (3 ∷ 0 ∷ 1 ∷ 1 ∷ 2 ∷ 3 ∷ []) 6 2 1 (3 ∷ 0 ∷ 1 ∷ 2 ∷ 9 ∷ 9 ∷ []) (4 ∷ 9 ∷ [])
+    -- a join that a piece of four refuses, by its corner before s and by its corner after e
+    ∷ merged-into (whole (2 ∷ 0 ∷ 1 ∷ 0 ∷ 1 ∷ 1 ∷ 3 ∷ 1 ∷ 0 ∷ 2 ∷ [])) (3 ∷ 2 ∷ 0 ∷ 4 ∷ 1 ∷ 2 ∷ 0 ∷ 2 ∷ 1 ∷ []) 9 3 2 (0 ∷ 3 ∷ 2 ∷ 1 ∷ 4 ∷ 1 ∷ 2 ∷ 9 ∷ 9 ∷ []) (4 ∷ 3 ∷ 9 ∷ [])
+    ∷ merged-into (whole (2 ∷ 2 ∷ 2 ∷ 1 ∷ 1 ∷ 1 ∷ 1 ∷ 3 ∷ 0 ∷ 0 ∷ [])) (0 ∷ 3 ∷ 1 ∷ 2 ∷ 1 ∷ 3 ∷ 4 ∷ 2 ∷ 3 ∷ []) 9 3 2 (1 ∷ 0 ∷ 3 ∷ 2 ∷ 4 ∷ 2 ∷ 3 ∷ 9 ∷ 9 ∷ []) (4 ∷ 3 ∷ 9 ∷ [])
     -- the search stops at the first later piece that holds the reverse edge, though the join with it is refused
     ∷ merged-into Q (1 ∷ 2 ∷ 3 ∷ 3 ∷ 0 ∷ 1 ∷ 1 ∷ 3 ∷ 3 ∷ []) 9 3 2 (1 ∷ 2 ∷ 3 ∷ 3 ∷ 0 ∷ 1 ∷ 3 ∷ 9 ∷ 9 ∷ []) (3 ∷ 4 ∷ 9 ∷ [])
     -- i starts again at 0 after a join
     ∷ merged-into hexagon (0 ∷ 1 ∷ 3 ∷ 1 ∷ 2 ∷ 3 ∷ 5 ∷ 0 ∷ 3 ∷ []) 9 3 1 (0 ∷ 1 ∷ 2 ∷ 3 ∷ 5 ∷ 9 ∷ 9 ∷ 9 ∷ 9 ∷ []) (5 ∷ 9 ∷ 9 ∷ [])
     ∷ merged-into hexagon (4 ∷ 1 ∷ 3 ∷ 1 ∷ 4 ∷ 0 ∷ 3 ∷ 1 ∷ 2 ∷ []) 9 3 1 (3 ∷ 4 ∷ 0 ∷ 1 ∷ 2 ∷ 9 ∷ 9 ∷ 9 ∷ 9 ∷ []) (5 ∷ 9 ∷ 9 ∷ [])
+    -- pieces that do not hold the reverse edge are passed and stay in their order
+    ∷ merged-into P (2 ∷ 3 ∷ 0 ∷ 1 ∷ 2 ∷ 3 ∷ 2 ∷ 3 ∷ 1 ∷ 2 ∷ 0 ∷ 1 ∷ []) 12 4 3 (2 ∷ 3 ∷ 0 ∷ 1 ∷ 1 ∷ 2 ∷ 3 ∷ 2 ∷ 3 ∷ 1 ∷ 9 ∷ 9 ∷ []) (4 ∷ 3 ∷ 3 ∷ 9 ∷ [])
     -- a piece with no join is left, and the next is A
     ∷ merged-into P (1 ∷ 2 ∷ 3 ∷ 2 ∷ 3 ∷ 0 ∷ 2 ∷ 0 ∷ 1 ∷ []) 9 3 2 (1 ∷ 2 ∷ 3 ∷ 2 ∷ 3 ∷ 0 ∷ 1 ∷ 9 ∷ 9 ∷ []) (3 ∷ 4 ∷ 9 ∷ [])
     -- the last piece moves into the place of the one that was joined
