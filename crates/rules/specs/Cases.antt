@@ -146,6 +146,9 @@ table =
     -- the pointiest ear is taken, wherever it stands: corner 1 here, and corners 4, 0 and 1 of five
     ∷ cut-into (whole (0 ∷ 1 ∷ 0 ∷ 0 ∷ 5 ∷ 2 ∷ 4 ∷ 4 ∷ [])) 6 2 (0 ∷ 1 ∷ 2 ∷ 3 ∷ 0 ∷ 2 ∷ [])
     ∷ cut-into (whole (1 ∷ 0 ∷ 5 ∷ 4 ∷ 1 ∷ 6 ∷ 1 ∷ 2 ∷ 0 ∷ 0 ∷ [])) 9 3 (3 ∷ 4 ∷ 0 ∷ 3 ∷ 0 ∷ 1 ∷ 3 ∷ 1 ∷ 2 ∷ [])
+    -- where rounding decides: dx and dy are multiplied by the rounded reciprocal, and the products are rounded before they are added
+    ∷ cut-into (whole (5 ∷ 5 ∷ 3 ∷ 4 ∷ 1 ∷ 2 ∷ 1 ∷ 3 ∷ 0 ∷ 0 ∷ [])) 9 3 (4 ∷ 0 ∷ 1 ∷ 4 ∷ 1 ∷ 2 ∷ 4 ∷ 2 ∷ 3 ∷ [])
+    ∷ cut-into (whole (2 ∷ 4 ∷ 1 ∷ 4 ∷ 2 ∷ 3 ∷ 3 ∷ 7 ∷ 0 ∷ 8 ∷ [])) 9 3 (0 ∷ 1 ∷ 2 ∷ 0 ∷ 2 ∷ 3 ∷ 4 ∷ 0 ∷ 3 ∷ [])
     -- points beside the triangle of a corner, beyond its corners, and on its border, which block
     ∷ cut-into (whole (1 ∷ 3 ∷ 3 ∷ 4 ∷ 0 ∷ 2 ∷ 2 ∷ 4 ∷ 1 ∷ 4 ∷ [])) 9 3 (3 ∷ 4 ∷ 0 ∷ 3 ∷ 0 ∷ 1 ∷ 3 ∷ 1 ∷ 2 ∷ [])
     ∷ cut-into (whole (4 ∷ 1 ∷ 0 ∷ 4 ∷ 3 ∷ 2 ∷ 2 ∷ 4 ∷ 1 ∷ 4 ∷ [])) 9 3 (2 ∷ 3 ∷ 4 ∷ 1 ∷ 2 ∷ 4 ∷ 4 ∷ 0 ∷ 1 ∷ [])
