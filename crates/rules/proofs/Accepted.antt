@@ -8,7 +8,7 @@ use mathlib.Core.List.{List, [], _∷_, _++_}
 use lib.Dec.{ltb, eqb}
 use lib.ListN.{length}
 use lib.Ieee.{Float}
-use Rattle.algebra.specs.Lists.{Each, end, _&_, countFrom}
+use Rattle.algebra.specs.Lists.{Each, end, _&_, any, countFrom}
 use Rattle.algebra.specs.Rings.{Corner, steps, edges}
 use Rattle.algebra.proofs.Lists.{each-imp, none-passes}
 use Rattle.algebra.proofs.Equal.{impossible, eqb-true, not-false, or-false, ltb-false, ltb-is-true}
@@ -21,7 +21,7 @@ use Rattle.rules.specs.Refusals.{firstRefusal, equalNeighbours, isStuck,
 use Rattle.rules.specs.Entries.{cutter}
 use Rattle.rules.proofs.Rows.{passes, applies, row-on, front-none, front-skips, others-decide}
 use Rattle.rules.proofs.Fronts.{cutter-front, seven-front, list-front, triangles-front}
-use Rattle.rules.proofs.Points.{differ}
+use Rattle.rules.proofs.Points.{differ, apart→not-same}
 use Rattle.rules.proofs.Outline.{all-points}
 use Rattle.rules.proofs.Outlines.{Outlined, outlined}
 use Rattle.rules.proofs.Stuck.{NoEarLeft, stuck→no-ear, no-ear→stuck}
@@ -37,6 +37,23 @@ module _ (ps : List Pt) where
   apart : (ring : List ℕ) → Each (λ e. same (e .from) (e .to) ≡ false) (edges (points ps ring)) → Apart ps ring
   apart [] h = end
   apart (a ∷ l) h = steps-apart a l a h
+
+  steps-differ : (a : ℕ) (l : List ℕ) (b : ℕ) → Each (λ e. point ps (e .from) ≢ point ps (e .to)) (steps a (l ++ b ∷ [])) → any (λ e. same (e .from) (e .to)) (steps (point ps a) (points ps l ++ point ps b ∷ [])) ≡ false
+  steps-differ a [] b (h & end) = rw (apart→not-same (point ps a) (point ps b) h)
+  steps-differ a (x ∷ l) b (h & k) = rw (apart→not-same (point ps a) (point ps x) h) (steps-differ x l b k)
+
+  ring-differs : (ring : List ℕ) → Apart ps ring → any (λ e. same (e .from) (e .to)) (edges (points ps ring)) ≡ false
+  ring-differs [] h = refl
+  ring-differs (a ∷ l) h = steps-differ a l a h
+
+  -- 5 stands for neighbours that are equal points, and for nothing else
+  pub no-equals→apart : equalNeighbours ps ≡ false → Apart ps (countFrom 0 (length ps))
+  unfolding equalNeighbours
+  no-equals→apart h = apart (countFrom 0 (length ps)) (rw (all-points ps) (none-passes (λ e. same (e .from) (e .to)) (edges ps) h))
+
+  pub apart→no-equals : Apart ps (countFrom 0 (length ps)) → equalNeighbours ps ≡ false
+  unfolding equalNeighbours
+  apart→no-equals h = rw (all-points ps) at (ring-differs (countFrom 0 (length ps)) h)
 
 -- ---- the cutter's rows before 7
 
@@ -82,7 +99,7 @@ accepted cs room e =
     record {
       three = r .outlines .at-least;
       at-most = r .outlines .at-most;
-      neighbours = apart ps (countFrom 0 (length ps)) (rw (all-points ps) (none-passes (λ e. same (e .from) (e .to)) (edges ps) (r .no-equals)));
+      neighbours = no-equals→apart ps (r .no-equals);
       fits = r .fits;
       triangles = ts;
       is-cut = is;

@@ -1,6 +1,6 @@
--- What the rows of an outline leave where none applies, and that none applies where that is left.
+-- Document 01's limits in numbers. What the rows of an outline leave where none applies, and that none applies where that is left.
 use Prim.Native.Nat.{ℕ, _*_, _/_, _%_, _≤_}
-use mathlib.Core.Path.{_≡_, sym, _∙_}
+use mathlib.Core.Path.{_≡_, refl, sym, _∙_}
 use mathlib.Core.Bool.{false}
 use mathlib.Core.List.{List, []}
 use native.Mathlib.Omega.{arith}
@@ -9,11 +9,24 @@ use lib.Dec.{eqb, ltb}
 use lib.ListN.{length}
 use lib.Ieee.{Float}
 use Rattle.algebra.proofs.Equal.{ltb-false}
+use Rattle.rules.specs.Limits.{gridEdge, mostPoints, mostCoordinates, mostTriangles, mostIndices}
 use Rattle.rules.specs.Grid.{pointsOf}
 use Rattle.rules.specs.Refusals.{firstRefusal, offGrid, countChecks, outlineChecks}
 use Rattle.rules.proofs.Rows.{passes, row-off, no-rows, front-none, others-decide}
 use Rattle.rules.proofs.Fronts.{count-front}
 use Rattle.rules.proofs.Coordinates.{points-length}
+
+-- ---- the limits
+
+pub record InNumbers : Type 0 where
+  pub edge : gridEdge ≡ 1024
+  pub points : mostPoints ≡ 512
+  pub coordinates : mostCoordinates ≡ 1024
+  pub triangles : mostTriangles ≡ 510
+  pub indices : mostIndices ≡ 1530
+
+pub in-numbers : InNumbers
+in-numbers = record { edge = refl; points = refl; coordinates = refl; triangles = refl; indices = refl }
 
 -- ---- the number of coordinates
 

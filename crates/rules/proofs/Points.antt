@@ -1,7 +1,7 @@
 -- Equal points: `same` says that two points are equal, both ways.
-use mathlib.Core.Path.{_≡_, subst}
+use mathlib.Core.Path.{_≡_, refl, subst}
 use mathlib.Core.Logic.{_≢_}
-use mathlib.Core.Bool.{true, false, _&&_}
+use mathlib.Core.Bool.{Bool, true, false, _&&_}
 use lib.IntN.{ℤ}
 use lib.Signed.{leZ, ≤ℤ-refl}
 use Rattle.algebra.proofs.Equal.{impossible, T→true, and-true-l, and-true-r}
@@ -30,3 +30,10 @@ same→equal a b h =
 
 pub differ : (a b : Pt) → same a b ≡ false → a ≢ b
 differ a b h e = impossible (cc (equal→same a b e, h))
+
+pub apart→not-same : (a b : Pt) → a ≢ b → same a b ≡ false
+apart→not-same a b h = go (same a b) refl
+  where
+    go : (t : Bool) → same a b ≡ t → t ≡ false
+    go true e = absurd (h (same→equal a b e))
+    go false e = refl

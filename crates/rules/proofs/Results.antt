@@ -73,12 +73,18 @@ module _ (cs : List Float) (out : List ℕ) (ok : cutter cs out .number ≡ 0) w
 
 -- ---- the merger
 
--- a triangle that is not clockwise has no corner that turns right
+-- a triangle is not clockwise exactly if it doesn't turn right
 pub not-right : (ps : List Pt) (ts : List (Corner ℕ)) → Each (NotClockwise ps) (map ringOf ts) → Each (NotRight ps) ts
 unfolding area2
 not-right ps [] h = end
 not-right ps (t ∷ ts) (p & h) =
     (ap (λ (z : ℤ). ltZ z (pos 0)) (sym (turn-edges (point ps (t .before)) (point ps (t .at)) (point ps (t .after)))) ∙ p) & not-right ps ts h
+
+pub not-clockwise : (ps : List Pt) (ts : List (Corner ℕ)) → Each (NotRight ps) ts → Each (NotClockwise ps) (map ringOf ts)
+unfolding area2
+not-clockwise ps [] h = end
+not-clockwise ps (t ∷ ts) (p & h) =
+    (ap (λ (z : ℤ). ltZ z (pos 0)) (turn-edges (point ps (t .before)) (point ps (t .at)) (point ps (t .after))) ∙ p) & not-clockwise ps ts h
 
 module _ (cs : List Float) (triangles out lens : List ℕ) (ok : merger cs triangles out lens .number ≡ 0) where
   abbrev ps : List Pt

@@ -2,6 +2,7 @@
 -- one give its `nextJoin`; and every join, and every step to the next A, leaves one piece fewer to go through.
 use Prim.Native.Nat.{ℕ, zero, suc, _+_, _-_, _*_, _≤_, _<_}
 use mathlib.Core.Path.{_≡_, refl, sym, _∙_, ap, ap₂}
+use mathlib.Core.Logic.{_≢_}
 use mathlib.Core.Bool.{Bool, true, false, cond}
 use mathlib.Core.List.{List, [], _∷_, _++_, append-assoc, append-nil}
 use mathlib.Core.Option.{Option, none, some, Option·map}
@@ -14,6 +15,7 @@ use lib.Seq.{getD-append-seam, getD-append-add, set-append-seam, take-append-add
 use Rattle.algebra.specs.Lists.{orElse, first, countFrom}
 use Rattle.algebra.specs.Sums.{total, naturals}
 use Rattle.algebra.specs.Rings.{begunAt, rotations}
+use Rattle.algebra.proofs.Equal.{impossible}
 use Rattle.algebra.proofs.Lists.{first-map}
 use Rattle.algebra.proofs.Rings.{rotated-length, begun-rotated, rotations-begun}
 use Rattle.rules.specs.Merge.{follows, Part, with, lastFirst, mate, JoinTest, joint, mayJoin, joinWith, join, nextJoin, merge}
@@ -213,6 +215,61 @@ module _ (may : JoinTest) (most : ℕ) where
 -- the steps from any pieces end with what `merge` makes of them
 pub steps-merge : (may : JoinTest) (pieces : List (List ℕ)) → Ends may (begin pieces) (enoughSteps pieces) (merge may pieces)
 steps-merge may pieces = to-end may (all-corners pieces) (length pieces) [] pieces refl (omega arith)
+
+-- ---- what an end says
+
+run-further : (may : JoinTest) (n m : ℕ) (state : State) → run may (n + m) state ≡ run may m (run may n state)
+unfolding run
+run-further may zero m state = let e : 0 + m ≡ m = omega arith in rw e
+run-further may (suc n) m state = let e : suc n + m ≡ suc (n + m) = omega arith in rw e (run-further may n m (step may state))
+
+-- as many steps as the end allows lead there
+pub at-end : {may : JoinTest} {state : State} {n : ℕ} {pieces : List (List ℕ)} → Ends may state n pieces → run may n state ≡ finished pieces
+at-end {may} {state} {n} h =
+    let e : h .steps + (n - h .steps) ≡ n = omega (arith, h .at-most) in
+    ap (λ (k : ℕ). run may k state) (sym e) ∙ run-further may (h .steps) (n - h .steps) state ∙ ap (run may (n - h .steps)) (h .ended) ∙ h .stays (n - h .steps)
+
+-- the steps end with one list of pieces and no other
+pub end-unique : {may : JoinTest} {state : State} {n m : ℕ} {pieces others : List (List ℕ)} → Ends may state n pieces → Ends may state m others → pieces ≡ others
+end-unique {may} {state} h k =
+    let e : h .steps + k .steps ≡ k .steps + h .steps = omega arith in
+    let one = run-further may (h .steps) (k .steps) state ∙ ap (run may (k .steps)) (h .ended) ∙ h .stays (k .steps) in
+    let two = run-further may (k .steps) (h .steps) state ∙ ap (run may (h .steps)) (k .ended) ∙ k .stays (h .steps) in
+    ap (λ (s : State). s .pieces) (sym one ∙ ap (λ (n : ℕ). run may n state) e ∙ two)
+
+pub run-merge : (may : JoinTest) (pieces : List (List ℕ)) → run may (enoughSteps pieces) (begin pieces) ≡ finished (merge may pieces)
+run-merge may pieces = at-end (steps-merge may pieces)
+
+-- one piece needs them all: with one step fewer A's corners are gone through, and A is still there
+module _ (may : JoinTest) (a : List ℕ) where
+  abbrev alone : ℕ → State
+  alone i = record { pieces = a ∷ []; place = 0; corner = i }
+
+  no-join : (ring : List ℕ) → join may [] ring ≡ none
+  unfolding join joinWith mate
+  no-join [] = refl
+  no-join (s ∷ []) = refl
+  no-join (s ∷ e ∷ rest) = refl
+
+  next-corner : (i : ℕ) → i < length a → step may (alone i) ≡ alone (suc i)
+  next-corner i h = step-at may [] a [] i h ∙ go (corner-step may [] a [] i (begunAt i a)) (no-join (begunAt i a))
+    where
+      go : {o : Option Part} {state : State} → Went may [] a [] i o state → o ≡ none → state ≡ alone (suc i)
+      go goes-on e = refl
+      go (joins w) e = impossible (cc)
+
+  corners-only : (k i : ℕ) → i + k ≤ length a → run may k (alone i) ≡ alone (i + k)
+  unfolding run
+  corners-only zero i h = let e : i ≡ i + 0 = omega arith in ap alone e
+  corners-only (suc k) i h =
+      let e : suc i + k ≡ i + suc k = omega arith in
+      ap (run may k) (next-corner i (omega arith)) ∙ corners-only k (suc i) (omega arith) ∙ ap alone e
+
+  pub last-step-needed : run may (enoughSteps (a ∷ []) - 1) (begin (a ∷ [])) ≢ finished (a ∷ [])
+  last-step-needed h =
+      let e : enoughSteps (a ∷ []) - 1 ≡ length a = omega arith in
+      let there : run may (enoughSteps (a ∷ []) - 1) (begin (a ∷ [])) ≡ alone (0 + length a) = ap (λ (n : ℕ). run may n (begin (a ∷ []))) e ∙ corners-only (length a) 0 (omega arith) in
+      impossible (ap (λ (s : State). s .place) (sym there ∙ h))
 
 -- an accepted merge has written what the steps from the given triangles end with
 pub written-steps :

@@ -1,23 +1,24 @@
 -- Document 01, "Twelve small cases", as one table: what is lent to which entry, and everything that comes back.
--- Behind the twelve, cases that tell the slips of "Slips that look right" apart.
+-- Behind the twelve, cases for "Slips that look right", the edge of the grid, the choice of the ear, the joins, and each refusal and their order.
 use Prim.Native.Nat.{ℕ, _^_}
 use mathlib.Core.Path.{_≡_}
 use mathlib.Core.Bool.{Bool, true, false}
-use mathlib.Core.List.{List, [], _∷_}
-use lib.IntN.{ℤ, pos}
+use mathlib.Core.List.{List, [], _∷_, _++_, map}
+use lib.IntN.{ℤ, pos, negsuc, negℤ}
 use lib.ListN.{replicate}
 use lib.Ieee as Ieee
-use lib.Ieee.{Float, binary32}
+use lib.Ieee.{Float, nan, inf, fin, binary32}
 use Rattle.rules.specs.Grid.{pointsOf}
 use Rattle.rules.specs.Measure.{area2}
 use Rattle.rules.specs.Root.{root}
-use Rattle.rules.specs.Entries.{Cutting, Merging, Asking, cutter, merger, pointInPoly2d}
+use Rattle.rules.specs.Entries.{Cutting, Merging, Asking, cutter, merger, pointInPoly2d, pointInConvexPoly2d}
 
--- coordinates and lent slices, with what comes back
+-- what is lent and everything that comes back; `asking-both-at` has the outline test's answer, then the convex test's
 pub data Case : Type 0 where
   cutting : List Float → List ℕ → Cutting → Case
   merging : List Float → List ℕ → List ℕ → List ℕ → Merging → Case
   asking-at : Float → Float → List Float → Asking Bool → Case
+  asking-both-at : Float → Float → List Float → Asking Bool → Asking Bool → Case
   rooting : ℕ → Float → Case
   measuring : List Float → ℤ → Case
 
@@ -25,35 +26,88 @@ abbrev pub Holds : Case → Type 0
 Holds (cutting cs indices r) = cutter cs indices ≡ r
 Holds (merging cs triangles indices lengths r) = merger cs triangles indices lengths ≡ r
 Holds (asking-at x y cs r) = pointInPoly2d x y cs ≡ r
+Holds (asking-both-at x y cs r s) = _≡_ {A = Asking Bool × Asking Bool} (pointInPoly2d x y cs, pointInConvexPoly2d x y cs) (r, s)
 Holds (rooting m r) = root m ≡ r
 Holds (measuring cs r) = area2 (pointsOf cs) ≡ r
+
+-- ---- floats, and outlines by their coordinates
 
 abbrev f : ℕ → Float
 f n = Ieee.ofInt binary32 (pos n)
 
+abbrev f- : ℕ → Float
+f- n = Ieee.ofInt binary32 (negℤ (pos n))
+
+abbrev half : Float
+half = fin false 1 (negsuc 0)
+
+abbrev minus-zero : Float
+minus-zero = fin true 0 (pos 0)
+
+abbrev whole : List ℕ → List Float
+whole ns = map f ns
+
 abbrev P : List Float
-P = f 0 ∷ f 0 ∷ f 4 ∷ f 0 ∷ f 4 ∷ f 4 ∷ f 0 ∷ f 4 ∷ []
+P = whole (0 ∷ 0 ∷ 4 ∷ 0 ∷ 4 ∷ 4 ∷ 0 ∷ 4 ∷ [])
 
 abbrev P-backwards : List Float
-P-backwards = f 0 ∷ f 0 ∷ f 0 ∷ f 4 ∷ f 4 ∷ f 4 ∷ f 4 ∷ f 0 ∷ []
+P-backwards = whole (0 ∷ 0 ∷ 0 ∷ 4 ∷ 4 ∷ 4 ∷ 4 ∷ 0 ∷ [])
 
 abbrev Q : List Float
-Q = f 0 ∷ f 0 ∷ f 2 ∷ f 1 ∷ f 4 ∷ f 0 ∷ f 2 ∷ f 4 ∷ []
+Q = whole (0 ∷ 0 ∷ 2 ∷ 1 ∷ 4 ∷ 0 ∷ 2 ∷ 4 ∷ [])
 
-abbrev answered : Bool → Asking Bool
-answered b = record { number = 0; answer = b }
+-- Q with corner 1 on the line from corner 0 to corner 2
+abbrev Q-flat : List Float
+Q-flat = whole (0 ∷ 0 ∷ 2 ∷ 0 ∷ 4 ∷ 0 ∷ 2 ∷ 4 ∷ [])
+
+abbrev T : List Float
+T = whole (0 ∷ 0 ∷ 4 ∷ 0 ∷ 0 ∷ 4 ∷ [])
+
+abbrev T-backwards : List Float
+T-backwards = whole (0 ∷ 0 ∷ 0 ∷ 4 ∷ 4 ∷ 0 ∷ [])
+
+abbrev hexagon : List Float
+hexagon = whole (1 ∷ 0 ∷ 3 ∷ 0 ∷ 4 ∷ 2 ∷ 3 ∷ 4 ∷ 1 ∷ 4 ∷ 0 ∷ 2 ∷ [])
+
+-- as wide and as high as the grid
+abbrev widest : List Float
+widest = f- 1024 ∷ f- 1024 ∷ f 1024 ∷ f- 1024 ∷ f 0 ∷ f 1024 ∷ []
+
+-- ---- rows. Lent slots hold 9, so that what was not written shows; `room` is how many are lent
 
 abbrev nines : ℕ → List ℕ
 nines n = replicate n 9
 
--- lent slots hold 9, so that what was not written shows
+abbrev cut-into : List Float → ℕ → ℕ → List ℕ → Case
+cut-into cs room count indices = cutting cs (nines room) (record { number = 0; count = count; indices = indices })
+
+abbrev cut-refused : List Float → ℕ → ℕ → Case
+cut-refused cs room n = cutting cs (nines room) (record { number = n; count = 0; indices = nines room })
+
+abbrev merged-into : List Float → List ℕ → ℕ → ℕ → ℕ → List ℕ → List ℕ → Case
+merged-into cs triangles room roomForLengths count indices lengths =
+    merging cs triangles (nines room) (nines roomForLengths) (record { number = 0; count = count; indices = indices; lengths = lengths })
+
+abbrev merge-refused : List Float → List ℕ → ℕ → ℕ → ℕ → Case
+merge-refused cs triangles room roomForLengths n =
+    merging cs triangles (nines room) (nines roomForLengths) (record { number = n; count = 0; indices = nines room; lengths = nines roomForLengths })
+
+abbrev answered : Bool → Asking Bool
+answered b = record { number = 0; answer = b }
+
+abbrev both-answered : Float → Float → List Float → Bool → Bool → Case
+both-answered x y cs outline convex = asking-both-at x y cs (answered outline) (answered convex)
+
+abbrev both-refused : Float → Float → List Float → ℕ → Case
+both-refused x y cs n = asking-both-at x y cs (record { number = n; answer = false }) (record { number = n; answer = false })
+
 abbrev pub table : List Case
 table =
     cutting P (nines 6) (record { number = 0; count = 2; indices = 2 ∷ 3 ∷ 0 ∷ 2 ∷ 0 ∷ 1 ∷ [] })  -- K1
     ∷ merging P (2 ∷ 3 ∷ 0 ∷ 2 ∷ 0 ∷ 1 ∷ []) (nines 6) (nines 2) (record { number = 0; count = 1; indices = 2 ∷ 3 ∷ 0 ∷ 1 ∷ 9 ∷ 9 ∷ []; lengths = 4 ∷ 9 ∷ [] })  -- K2
     ∷ cutting Q (nines 6) (record { number = 0; count = 2; indices = 1 ∷ 2 ∷ 3 ∷ 3 ∷ 0 ∷ 1 ∷ [] })  -- K3
     ∷ merging Q (1 ∷ 2 ∷ 3 ∷ 3 ∷ 0 ∷ 1 ∷ []) (nines 6) (nines 2) (record { number = 0; count = 2; indices = 1 ∷ 2 ∷ 3 ∷ 3 ∷ 0 ∷ 1 ∷ []; lengths = 3 ∷ 3 ∷ [] })  -- K4
-    ∷ cutting (f 0 ∷ f 0 ∷ f 4 ∷ f 0 ∷ f 0 ∷ f 4 ∷ []) (nines 4) (record { number = 0; count = 1; indices = 2 ∷ 0 ∷ 1 ∷ 9 ∷ [] })  -- K5
+    ∷ cutting T (nines 4) (record { number = 0; count = 1; indices = 2 ∷ 0 ∷ 1 ∷ 9 ∷ [] })  -- K5
     ∷ cutting P-backwards (nines 6) (record { number = 7; count = 0; indices = nines 6 })  -- K6
     ∷ asking-at (f 0) (f 2) P (answered true)  -- K7
     ∷ asking-at (f 4) (f 2) P (answered false)  -- K8
@@ -61,16 +115,169 @@ table =
     ∷ asking-at (f 2) (f 4) P (answered false)  -- K10
     ∷ cutting P (nines 5) (record { number = 6; count = 0; indices = nines 5 })  -- K11
     ∷ rooting 2 (Ieee.round binary32 false 11863283 (2 ^ 23))  -- K12
-    ∷ measuring Q (pos 12)  -- the doubled areas of Q and its triangles
-    ∷ measuring (f 2 ∷ f 1 ∷ f 4 ∷ f 0 ∷ f 2 ∷ f 4 ∷ []) (pos 6)
-    ∷ measuring (f 2 ∷ f 4 ∷ f 0 ∷ f 0 ∷ f 2 ∷ f 1 ∷ []) (pos 6)
+    -- the doubled areas of Q, of its triangles, and of P backwards
+    ∷ measuring Q (pos 12)
+    ∷ measuring (whole (2 ∷ 1 ∷ 4 ∷ 0 ∷ 2 ∷ 4 ∷ [])) (pos 6)
+    ∷ measuring (whole (2 ∷ 4 ∷ 0 ∷ 0 ∷ 2 ∷ 1 ∷ [])) (pos 6)
+    ∷ measuring P-backwards (negℤ (pos 32))
+    -- the root of 5 is rounded up; those of 0, of 4, and of the greatest m
+    ∷ rooting 5 (Ieee.round binary32 false 9378749 (2 ^ 22))
+    ∷ rooting 0 (f 0)
+    ∷ rooting 4 (f 2)
+    ∷ rooting (2 ^ 23) (Ieee.round binary32 false 11863283 (2 ^ 12))
     -- a clockwise outline of three is accepted: the last three are not tested for being an ear
-    ∷ cutting (f 0 ∷ f 0 ∷ f 0 ∷ f 4 ∷ f 4 ∷ f 0 ∷ []) (nines 3) (record { number = 0; count = 1; indices = 2 ∷ 0 ∷ 1 ∷ [] })
+    ∷ cut-into T-backwards 3 1 (2 ∷ 0 ∷ 1 ∷ [])
     -- corner 1, which is cut first, still blocks corner 4
-    ∷ cutting (f 0 ∷ f 0 ∷ f 1 ∷ f 0 ∷ f 0 ∷ f 1 ∷ f 2 ∷ f 0 ∷ f 2 ∷ f 2 ∷ []) (nines 9) (record { number = 0; count = 3; indices = 0 ∷ 1 ∷ 2 ∷ 2 ∷ 3 ∷ 4 ∷ 4 ∷ 0 ∷ 2 ∷ [] })
-    -- two equal neighbours and no room: 5 stands before 6
-    ∷ cutting (f 0 ∷ f 0 ∷ f 0 ∷ f 0 ∷ f 4 ∷ f 0 ∷ []) [] (record { number = 5; count = 0; indices = [] })
+    ∷ cut-into (whole (0 ∷ 0 ∷ 1 ∷ 0 ∷ 0 ∷ 1 ∷ 2 ∷ 0 ∷ 2 ∷ 2 ∷ [])) 9 3 (0 ∷ 1 ∷ 2 ∷ 2 ∷ 3 ∷ 4 ∷ 4 ∷ 0 ∷ 2 ∷ [])
+    -- the grid goes from -1024 to 1024; minus zero is read as zero
+    ∷ cut-into widest 3 1 (2 ∷ 0 ∷ 1 ∷ [])
+    ∷ cut-into (minus-zero ∷ f 0 ∷ f 4 ∷ minus-zero ∷ f 4 ∷ f 4 ∷ f 0 ∷ f 4 ∷ []) 6 2 (2 ∷ 3 ∷ 0 ∷ 2 ∷ 0 ∷ 1 ∷ [])
+    ∷ cut-refused (f 0 ∷ f 0 ∷ minus-zero ∷ f 0 ∷ f 4 ∷ f 0 ∷ []) 3 5
+    -- 1025 and -1025, 2048, fractions, NaN and the infinities are off it, in any place
+    ∷ cut-refused (f 1025 ∷ f 0 ∷ f 4 ∷ f 0 ∷ f 0 ∷ f 4 ∷ []) 3 4
+    ∷ cut-refused (f 2048 ∷ f 0 ∷ f 4 ∷ f 0 ∷ f 0 ∷ f 4 ∷ []) 3 4
+    ∷ cut-refused (f- 1025 ∷ f 0 ∷ f 4 ∷ f 0 ∷ f 0 ∷ f 4 ∷ []) 3 4
+    ∷ cut-refused (half ∷ f 0 ∷ f 4 ∷ f 0 ∷ f 0 ∷ f 4 ∷ []) 3 4
+    ∷ cut-refused (nan ∷ f 0 ∷ f 4 ∷ f 0 ∷ f 0 ∷ f 4 ∷ []) 3 4
+    ∷ cut-refused (inf false ∷ f 0 ∷ f 4 ∷ f 0 ∷ f 0 ∷ f 4 ∷ []) 3 4
+    ∷ cut-refused (inf true ∷ f 0 ∷ f 4 ∷ f 0 ∷ f 0 ∷ f 4 ∷ []) 3 4
+    ∷ cut-refused (f 0 ∷ f 0 ∷ f 4 ∷ f 0 ∷ f 0 ∷ f 1025 ∷ []) 3 4
+    ∷ cut-refused (f 0 ∷ f 0 ∷ f 4 ∷ f 0 ∷ f 0 ∷ half ∷ []) 3 4
+    -- the pointiest ear is taken, wherever it stands: corner 1 here, and corners 4, 0 and 1 of five
+    ∷ cut-into (whole (0 ∷ 1 ∷ 0 ∷ 0 ∷ 5 ∷ 2 ∷ 4 ∷ 4 ∷ [])) 6 2 (0 ∷ 1 ∷ 2 ∷ 3 ∷ 0 ∷ 2 ∷ [])
+    ∷ cut-into (whole (1 ∷ 0 ∷ 5 ∷ 4 ∷ 1 ∷ 6 ∷ 1 ∷ 2 ∷ 0 ∷ 0 ∷ [])) 9 3 (3 ∷ 4 ∷ 0 ∷ 3 ∷ 0 ∷ 1 ∷ 3 ∷ 1 ∷ 2 ∷ [])
+    -- where rounding decides: dx and dy are multiplied by the rounded reciprocal, and the products are rounded before they are added
+    ∷ cut-into (whole (5 ∷ 5 ∷ 3 ∷ 4 ∷ 1 ∷ 2 ∷ 1 ∷ 3 ∷ 0 ∷ 0 ∷ [])) 9 3 (4 ∷ 0 ∷ 1 ∷ 4 ∷ 1 ∷ 2 ∷ 4 ∷ 2 ∷ 3 ∷ [])
+    ∷ cut-into (whole (2 ∷ 4 ∷ 1 ∷ 4 ∷ 2 ∷ 3 ∷ 3 ∷ 7 ∷ 0 ∷ 8 ∷ [])) 9 3 (0 ∷ 1 ∷ 2 ∷ 0 ∷ 2 ∷ 3 ∷ 4 ∷ 0 ∷ 3 ∷ [])
+    -- points beside the triangle of a corner, beyond its corners, and on its border, which block
+    ∷ cut-into (whole (1 ∷ 3 ∷ 3 ∷ 4 ∷ 0 ∷ 2 ∷ 2 ∷ 4 ∷ 1 ∷ 4 ∷ [])) 9 3 (3 ∷ 4 ∷ 0 ∷ 3 ∷ 0 ∷ 1 ∷ 3 ∷ 1 ∷ 2 ∷ [])
+    ∷ cut-into (whole (4 ∷ 1 ∷ 0 ∷ 4 ∷ 3 ∷ 2 ∷ 2 ∷ 4 ∷ 1 ∷ 4 ∷ [])) 9 3 (2 ∷ 3 ∷ 4 ∷ 1 ∷ 2 ∷ 4 ∷ 4 ∷ 0 ∷ 1 ∷ [])
+    -- a repeated point blocks
+    ∷ cut-refused (whole (0 ∷ 0 ∷ 4 ∷ 0 ∷ 4 ∷ 4 ∷ 0 ∷ 4 ∷ 4 ∷ 0 ∷ [])) 9 7
+    -- corner 3 is cut, and then no ear is left: what was lent is as it was
+    ∷ cut-refused (whole (2 ∷ 0 ∷ 0 ∷ 0 ∷ 0 ∷ 1 ∷ 1 ∷ 0 ∷ 1 ∷ 1 ∷ [])) 9 7
+    -- four corners on a line
+    ∷ cut-refused (whole (0 ∷ 0 ∷ 1 ∷ 0 ∷ 2 ∷ 0 ∷ 3 ∷ 0 ∷ [])) 6 7
+    -- the refusals of the cutter, and of two that apply the earlier: 1 before 2 and 3, 2 before 4
+    ∷ cut-refused [] 0 2
+    ∷ cut-refused (whole (0 ∷ [])) 0 1
+    ∷ cut-refused (whole (0 ∷ 0 ∷ 4 ∷ 0 ∷ 0 ∷ 4 ∷ 0 ∷ [])) 3 1
+    ∷ cut-refused (replicate 1027 (f 0)) 3 1
+    ∷ cut-refused (whole (0 ∷ 0 ∷ 4 ∷ 0 ∷ [])) 3 2
+    ∷ cut-refused (nan ∷ f 0 ∷ f 4 ∷ f 0 ∷ []) 3 2
+    -- 512 points and 513: 3 before 4
+    ∷ cut-refused (replicate 1024 (f 0)) 3 5
+    ∷ cut-refused (replicate 1026 (f 0)) 3 3
+    ∷ cut-refused (replicate 1026 nan) 3 3
+    -- 4 before 5; 5 for the last corner and the first; 5 before 6, 6 before 7
+    ∷ cut-refused (nan ∷ f 0 ∷ f 4 ∷ f 0 ∷ f 4 ∷ f 0 ∷ []) 3 4
+    ∷ cut-refused (whole (0 ∷ 0 ∷ 4 ∷ 0 ∷ 4 ∷ 4 ∷ 0 ∷ 0 ∷ [])) 6 5
+    ∷ cut-refused (whole (0 ∷ 0 ∷ 0 ∷ 0 ∷ 4 ∷ 0 ∷ [])) 0 5
+    ∷ cut-refused P-backwards 5 6
+    -- a join is refused for a right turn at s or at e, and not for a straight one
+    ∷ merged-into Q (3 ∷ 0 ∷ 1 ∷ 1 ∷ 2 ∷ 3 ∷ []) 6 2 2 (3 ∷ 0 ∷ 1 ∷ 1 ∷ 2 ∷ 3 ∷ []) (3 ∷ 3 ∷ [])
+    ∷ merged-into Q-flat (1 ∷ 2 ∷ 3 ∷ 3 ∷ 0 ∷ 1 ∷ []) 6 2 1 (1 ∷ 2 ∷ 3 ∷ 0 ∷ 9 ∷ 9 ∷ []) (4 ∷ 9 ∷ [])
+    ∷ merged-into Q-flat (3 ∷ 0 ∷ 1 ∷ 1 ∷ 2 ∷ 3 ∷ []) 6 2 1 (3 ∷ 0 ∷ 1 ∷ 2 ∷ 9 ∷ 9 ∷ []) (4 ∷ 9 ∷ [])
+    -- a join that a piece of four refuses, by its corner before s and by its corner after e
+    ∷ merged-into (whole (2 ∷ 0 ∷ 1 ∷ 0 ∷ 1 ∷ 1 ∷ 3 ∷ 1 ∷ 0 ∷ 2 ∷ [])) (3 ∷ 2 ∷ 0 ∷ 4 ∷ 1 ∷ 2 ∷ 0 ∷ 2 ∷ 1 ∷ []) 9 3 2 (0 ∷ 3 ∷ 2 ∷ 1 ∷ 4 ∷ 1 ∷ 2 ∷ 9 ∷ 9 ∷ []) (4 ∷ 3 ∷ 9 ∷ [])
+    ∷ merged-into (whole (2 ∷ 2 ∷ 2 ∷ 1 ∷ 1 ∷ 1 ∷ 1 ∷ 3 ∷ 0 ∷ 0 ∷ [])) (0 ∷ 3 ∷ 1 ∷ 2 ∷ 1 ∷ 3 ∷ 4 ∷ 2 ∷ 3 ∷ []) 9 3 2 (1 ∷ 0 ∷ 3 ∷ 2 ∷ 4 ∷ 2 ∷ 3 ∷ 9 ∷ 9 ∷ []) (4 ∷ 3 ∷ 9 ∷ [])
+    -- the search stops at the first later piece that holds the reverse edge, though the join with it is refused
+    ∷ merged-into Q (1 ∷ 2 ∷ 3 ∷ 3 ∷ 0 ∷ 1 ∷ 1 ∷ 3 ∷ 3 ∷ []) 9 3 2 (1 ∷ 2 ∷ 3 ∷ 3 ∷ 0 ∷ 1 ∷ 3 ∷ 9 ∷ 9 ∷ []) (3 ∷ 4 ∷ 9 ∷ [])
+    -- i starts again at 0 after a join
+    ∷ merged-into hexagon (0 ∷ 1 ∷ 3 ∷ 1 ∷ 2 ∷ 3 ∷ 5 ∷ 0 ∷ 3 ∷ []) 9 3 1 (0 ∷ 1 ∷ 2 ∷ 3 ∷ 5 ∷ 9 ∷ 9 ∷ 9 ∷ 9 ∷ []) (5 ∷ 9 ∷ 9 ∷ [])
+    ∷ merged-into hexagon (4 ∷ 1 ∷ 3 ∷ 1 ∷ 4 ∷ 0 ∷ 3 ∷ 1 ∷ 2 ∷ []) 9 3 1 (3 ∷ 4 ∷ 0 ∷ 1 ∷ 2 ∷ 9 ∷ 9 ∷ 9 ∷ 9 ∷ []) (5 ∷ 9 ∷ 9 ∷ [])
+    -- pieces that do not hold the reverse edge are passed and stay in their order
+    ∷ merged-into P (2 ∷ 3 ∷ 0 ∷ 1 ∷ 2 ∷ 3 ∷ 2 ∷ 3 ∷ 1 ∷ 2 ∷ 0 ∷ 1 ∷ []) 12 4 3 (2 ∷ 3 ∷ 0 ∷ 1 ∷ 1 ∷ 2 ∷ 3 ∷ 2 ∷ 3 ∷ 1 ∷ 9 ∷ 9 ∷ []) (4 ∷ 3 ∷ 3 ∷ 9 ∷ [])
+    -- a piece with no join is left, and the next is A
+    ∷ merged-into P (1 ∷ 2 ∷ 3 ∷ 2 ∷ 3 ∷ 0 ∷ 2 ∷ 0 ∷ 1 ∷ []) 9 3 2 (1 ∷ 2 ∷ 3 ∷ 2 ∷ 3 ∷ 0 ∷ 1 ∷ 9 ∷ 9 ∷ []) (3 ∷ 4 ∷ 9 ∷ [])
     -- the last piece moves into the place of the one that was joined
-    ∷ merging P (2 ∷ 3 ∷ 0 ∷ 2 ∷ 0 ∷ 1 ∷ 2 ∷ 3 ∷ 0 ∷ 1 ∷ 2 ∷ 3 ∷ []) (nines 12) (nines 4)
-    (record { number = 0; count = 3; indices = 2 ∷ 3 ∷ 0 ∷ 1 ∷ 1 ∷ 2 ∷ 3 ∷ 2 ∷ 3 ∷ 0 ∷ 9 ∷ 9 ∷ []; lengths = 4 ∷ 3 ∷ 3 ∷ 9 ∷ [] })
+    ∷ merged-into P (2 ∷ 3 ∷ 0 ∷ 2 ∷ 0 ∷ 1 ∷ 2 ∷ 3 ∷ 0 ∷ 1 ∷ 2 ∷ 3 ∷ []) 12 4 3 (2 ∷ 3 ∷ 0 ∷ 1 ∷ 1 ∷ 2 ∷ 3 ∷ 2 ∷ 3 ∷ 0 ∷ 9 ∷ 9 ∷ []) (4 ∷ 3 ∷ 3 ∷ 9 ∷ [])
+    -- an index that stands twice: by place in the ring and not by number
+    ∷ merged-into Q-flat (0 ∷ 0 ∷ 3 ∷ 0 ∷ 1 ∷ 3 ∷ []) 6 2 1 (3 ∷ 0 ∷ 0 ∷ 1 ∷ 9 ∷ 9 ∷ []) (4 ∷ 9 ∷ [])
+    -- an empty list is no pieces, and lent slots are as they were
+    ∷ merged-into [] [] 0 0 0 [] []
+    ∷ merged-into P [] 2 1 0 (nines 2) (nines 1)
+    -- the refusals of the merger, and of two that apply the earlier: 1 before 3, 3 before 4, 4 before 8
+    ∷ merge-refused (whole (0 ∷ [])) [] 0 0 1
+    ∷ merge-refused (replicate 1027 (f 0)) [] 0 0 1
+    ∷ merged-into (replicate 1024 (f 0)) [] 0 0 0 [] []
+    ∷ merge-refused (replicate 1026 (f 0)) [] 2 2 3
+    ∷ merge-refused (replicate 1026 nan) [] 2 2 3
+    ∷ merge-refused (f 0 ∷ f 1025 ∷ []) [] 1 1 4
+    ∷ merge-refused (f 0 ∷ f- 1025 ∷ []) [] 1 1 4
+    ∷ merge-refused (f 0 ∷ half ∷ []) [] 1 1 4
+    ∷ merge-refused (f 0 ∷ nan ∷ []) [] 1 1 4
+    ∷ merge-refused (f 0 ∷ inf false ∷ []) [] 1 1 4
+    ∷ merge-refused (f 0 ∷ inf true ∷ []) [] 1 1 4
+    ∷ merge-refused (nan ∷ f 0 ∷ []) (0 ∷ []) 2 2 4
+    ∷ merge-refused P (0 ∷ []) 3 1 8
+    ∷ merge-refused P (0 ∷ 1 ∷ 2 ∷ 3 ∷ 0 ∷ []) 6 2 8
+    -- 510 triangles and 511: 8 before 10, 10 before 9
+    ∷ merge-refused P (replicate 1530 0) 0 0 6
+    ∷ merge-refused P (replicate 1531 0) 1533 511 8
+    ∷ merge-refused P (replicate 1533 0) 1533 511 10
+    ∷ merge-refused P (replicate 1534 0) 1533 511 8
+    ∷ merge-refused [] (replicate 1533 0) 1533 511 10
+    -- an index that is the number of points; 9 before 6; too little room for indices, and for lengths
+    ∷ merge-refused P (0 ∷ 1 ∷ 4 ∷ []) 3 1 9
+    ∷ merge-refused P (0 ∷ 1 ∷ 4 ∷ []) 2 0 9
+    ∷ merge-refused P (2 ∷ 3 ∷ 0 ∷ 2 ∷ 0 ∷ 1 ∷ []) 5 2 6
+    ∷ merge-refused P (2 ∷ 3 ∷ 0 ∷ 2 ∷ 0 ∷ 1 ∷ []) 6 1 6
+    -- both point tests, of which the first answer is the outline test: inside, outside, at corners and on the border
+    ∷ both-answered (f 2) (f 2) P true true
+    ∷ both-answered (f 5) (f 2) P false false
+    ∷ both-answered (f 2) (f 5) P false false
+    ∷ both-answered (f- 1) (f 2) P false false
+    ∷ both-answered (f 2) (f- 1) P false false
+    ∷ both-answered (f 0) (f 0) P true true
+    ∷ both-answered (f 4) (f 4) P false true
+    ∷ both-answered (f 0) (f 4) P false true
+    ∷ both-answered (f 4) (f 0) P false true
+    ∷ both-answered (f 0) (f 2) P true true
+    ∷ both-answered (f 4) (f 2) P false true
+    ∷ both-answered (f 2) (f 0) P true true
+    ∷ both-answered (f 2) (f 4) P false true
+    -- backwards; in the hollow of Q and around it; directly beside an outline
+    ∷ both-answered (f 2) (f 2) P-backwards true true
+    ∷ both-answered (f 0) (f 2) P-backwards true true
+    ∷ both-answered (f 4) (f 2) P-backwards false true
+    ∷ both-answered (f 2) (f 0) Q false false
+    ∷ both-answered (f 2) (f 1) Q true true
+    ∷ both-answered (f 2) (f 2) Q true true
+    ∷ both-answered (f 1) (f 1) Q true false
+    ∷ both-answered (f 3) (f 1) Q true false
+    ∷ both-answered (f- 1) (f 0) (whole (0 ∷ 0 ∷ 1 ∷ 0 ∷ 0 ∷ 1 ∷ [])) false false
+    -- no corners: no. One corner: the convex test says yes to every point. Two: to those on their line
+    ∷ both-answered (f 0) (f 0) [] false false
+    ∷ both-answered (f 3) (f 2) (whole (0 ∷ 0 ∷ [])) false true
+    ∷ both-answered (f 0) (f 0) (whole (0 ∷ 0 ∷ [])) false true
+    ∷ both-answered (f 4) (f 2) (whole (0 ∷ 0 ∷ 2 ∷ 1 ∷ [])) false true
+    ∷ both-answered (f 4) (f 3) (whole (0 ∷ 0 ∷ 2 ∷ 1 ∷ [])) false false
+    -- at the edge of the grid, and at minus zero
+    ∷ both-answered (f 1024) (f- 1024) widest false true
+    ∷ both-answered minus-zero (f 2) P true true
+    ∷ both-answered (f 2) minus-zero P true true
+    -- a refused question is answered with no: for x, for y, for a coordinate
+    ∷ both-refused (f 1025) (f 2) P 4
+    ∷ both-refused (f- 1025) (f 2) P 4
+    ∷ both-refused half (f 2) P 4
+    ∷ both-refused nan (f 2) P 4
+    ∷ both-refused (inf false) (f 2) P 4
+    ∷ both-refused (inf true) (f 2) P 4
+    ∷ both-refused (f 2) (f 1025) P 4
+    ∷ both-refused (f 2) (f- 1025) P 4
+    ∷ both-refused (f 2) half P 4
+    ∷ both-refused (f 2) nan P 4
+    ∷ both-refused (f 2) (inf false) P 4
+    ∷ both-refused (f 2) (inf true) P 4
+    ∷ both-refused (f 2) (f 2) (P ++ (f 2 ∷ f 1025 ∷ [])) 4
+    ∷ both-refused (f 2) (f 2) (P ++ (nan ∷ f 2 ∷ [])) 4
+    -- the refusals of the point tests, and of two that apply the earlier: 1 before 3 and 4, 3 before 4
+    ∷ both-refused (f 2) (f 2) (P ++ (f 0 ∷ [])) 1
+    ∷ both-refused (f 2) (f 2) (replicate 1027 (f 0)) 1
+    ∷ both-refused nan (f 2) (P ++ (f 0 ∷ [])) 1
+    ∷ both-answered (f 0) (f 0) (replicate 1024 (f 0)) false true
+    ∷ both-refused (f 0) (f 0) (replicate 1026 (f 0)) 3
+    ∷ both-refused nan (f 0) (replicate 1026 (f 0)) 3
+    ∷ both-refused (f 0) (f 0) (replicate 1026 nan) 3
     ∷ []
