@@ -3,6 +3,7 @@
 mod room;
 
 use entries::Answer;
+use entries::FEW_COORDINATES;
 use entries::MOST_INDICES;
 use entries::MOST_POINTS;
 use entries::few_floats;
@@ -125,7 +126,7 @@ fn told(v: point_in_poly2d::Verdict) -> Verdict
     }
 }
 
-// One of the two point tests. An outline of 64 corners or fewer is read into less room, which is sooner cleared.
+// One of the two point tests. A small outline is read into less room, which is sooner cleared.
 fn ask(x: f32, y: f32, coords: &[u8], convex: bool) -> Verdict
     ensures { λ r. ⌜ PointPromise (testOf convex) x y (now (coords .entry)) r ⌝ }
 {
@@ -134,7 +135,7 @@ fn ask(x: f32, y: f32, coords: &[u8], convex: bool) -> Verdict
     if number != 0 {
         return Verdict { number, answer: 0 };
     }
-    if n <= 128 {
+    if n <= FEW_COORDINATES {
         let mut few = few_floats();
         read_floats(coords, &mut few);
         return told(point_in_poly2d::ask(x, y, &few[..n], convex));
