@@ -1,14 +1,12 @@
 -- Which rows of each entry stand in front of which: an outline's in front of every entry's own.
-use Prim.Native.Nat.{ℕ, _*_, _-_, _/_}
+use Prim.Native.Nat.{ℕ}
 use mathlib.Core.Path.{refl}
-use mathlib.Core.Bool.{Bool, _||_}
 use mathlib.Core.List.{List, [], _∷_}
-use lib.Dec.{ltb}
 use lib.ListN.{length}
 use lib.Ieee.{Float}
 use Rattle.rules.specs.Limits.{mostPoints}
 use Rattle.rules.specs.Grid.{pointsOf}
-use Rattle.rules.specs.Refusals.{Row, _gives_, offGrid, equalNeighbours, noEar, outOfRange, countChecks, outlineChecks, beforeCutting, cutterChecks, listChecks, beforeTriangles, mergerChecks, pointTestChecks}
+use Rattle.rules.specs.Refusals.{_gives_, offGrid, noEar, countChecks, outlineChecks, ringChecks, beforeCutting, cutterChecks, listChecks, beforeTriangles, triangleChecks, mergerChecks, pointTestChecks}
 use Rattle.rules.proofs.Rows.{Front}
 
 -- ---- an outline
@@ -19,10 +17,7 @@ count-front least most cs = record { whole = refl; numbered = refl }
 
 -- ---- the cutter
 
-abbrev pub afterOutline : List Float → ℕ → List Row
-afterOutline cs room = equalNeighbours (pointsOf cs) gives 5 ∷ ltb room (3 * (length (pointsOf cs) - 2)) gives 6 ∷ []
-
-pub cutter-front : (cs : List Float) (room : ℕ) → Front (outlineChecks 3 mostPoints cs) (afterOutline cs room) (beforeCutting cs room)
+pub cutter-front : (cs : List Float) (room : ℕ) → Front (outlineChecks 3 mostPoints cs) (ringChecks (pointsOf cs) room) (beforeCutting cs room)
 unfolding countChecks outlineChecks beforeCutting
 cutter-front cs room = record { whole = refl; numbered = refl }
 
@@ -36,15 +31,9 @@ pub list-front : (cs : List Float) (indices : ℕ) → Front (outlineChecks 0 mo
 unfolding countChecks outlineChecks beforeTriangles
 list-front cs indices = record { whole = refl; numbered = refl }
 
-abbrev pub shortRoom : List ℕ → ℕ → ℕ → Bool
-shortRoom triangles room roomForLengths = ltb room (length triangles) || ltb roomForLengths (length triangles / 3)
-
-abbrev pub ofTriangles : List Float → List ℕ → ℕ → ℕ → List Row
-ofTriangles cs triangles room roomForLengths = outOfRange (length (pointsOf cs)) triangles gives 9 ∷ shortRoom triangles room roomForLengths gives 6 ∷ []
-
 pub triangles-front :
     (cs : List Float) (triangles : List ℕ) (room roomForLengths : ℕ)
-    → Front (beforeTriangles cs (length triangles)) (ofTriangles cs triangles room roomForLengths) (mergerChecks cs triangles room roomForLengths)
+    → Front (beforeTriangles cs (length triangles)) (triangleChecks (pointsOf cs) triangles room roomForLengths) (mergerChecks cs triangles room roomForLengths)
 unfolding countChecks outlineChecks listChecks beforeTriangles mergerChecks
 triangles-front cs triangles room roomForLengths = record { whole = refl; numbered = refl }
 

@@ -37,6 +37,14 @@ unfoldable pub noEar : List Pt → Bool
 unfolding cut
 noEar ps = isStuck (cut ps)
 
+-- 3(n - 2) indices are needed for n corners
+abbrev pub shortToCut : List Pt → ℕ → Bool
+shortToCut ps room = ltb room (3 * (length ps - 2))
+
+-- 3m indices and m lengths are needed for m triangles
+abbrev pub shortToMerge : List ℕ → ℕ → ℕ → Bool
+shortToMerge triangles room roomForLengths = ltb room (length triangles) || ltb roomForLengths (length triangles / 3)
+
 -- an index is not below n
 unfoldable pub outOfRange : ℕ → List ℕ → Bool
 outOfRange n indices = any (λ i. not (ltb i n)) indices
@@ -57,14 +65,17 @@ outlineChecks least most cs = countChecks least most (length cs) ++ (offGrid cs 
 
 -- ---- the orders. Of the slices for output only the lengths are asked
 
+-- of the ring of corners, and of room for its triangles
+abbrev pub ringChecks : List Pt → ℕ → List Row
+ringChecks ps room =
+    equalNeighbours ps gives 5
+    ∷ shortToCut ps room gives 6
+    ∷ []
+
 -- the cutter's rows that need no cut
 unfoldable pub beforeCutting : List Float → ℕ → List Row
 unfolding outlineChecks equalNeighbours
-beforeCutting cs room =
-    outlineChecks 3 mostPoints cs
-    ++ (equalNeighbours (pointsOf cs) gives 5
-    ∷ ltb room (3 * (length (pointsOf cs) - 2)) gives 6
-    ∷ [])
+beforeCutting cs room = outlineChecks 3 mostPoints cs ++ ringChecks (pointsOf cs) room
 
 unfoldable pub cutterChecks : List Float → ℕ → List Row
 unfolding beforeCutting noEar
@@ -82,13 +93,16 @@ unfoldable pub beforeTriangles : List Float → ℕ → List Row
 unfolding outlineChecks listChecks
 beforeTriangles cs indices = outlineChecks 0 mostPoints cs ++ listChecks indices
 
+-- of the triangles, and of room for them
+abbrev pub triangleChecks : List Pt → List ℕ → ℕ → ℕ → List Row
+triangleChecks ps triangles room roomForLengths =
+    outOfRange (length ps) triangles gives 9
+    ∷ shortToMerge triangles room roomForLengths gives 6
+    ∷ []
+
 unfoldable pub mergerChecks : List Float → List ℕ → ℕ → ℕ → List Row
 unfolding beforeTriangles outOfRange
-mergerChecks cs triangles room roomForLengths =
-    beforeTriangles cs (length triangles)
-    ++ (outOfRange (length (pointsOf cs)) triangles gives 9
-    ∷ (ltb room (length triangles) || ltb roomForLengths (length triangles / 3)) gives 6
-    ∷ [])
+mergerChecks cs triangles room roomForLengths = beforeTriangles cs (length triangles) ++ triangleChecks (pointsOf cs) triangles room roomForLengths
 
 unfoldable pub pointTestChecks : Float → Float → List Float → List Row
 unfolding outlineChecks

@@ -9,9 +9,9 @@ use lib.Ieee.{Float}
 use borrow.Author.Needs.{needs}
 use borrow.Author.Tests.{lt-ltb, le-ltb}
 use Rattle.rules.specs.Grid.{pointsOf}
-use Rattle.rules.specs.Refusals.{_gives_, firstRefusal, outOfRange, beforeTriangles, mergerChecks}
+use Rattle.rules.specs.Refusals.{_gives_, firstRefusal, shortToMerge, outOfRange, beforeTriangles, triangleChecks, mergerChecks}
 use Rattle.rules.proofs.Rows.{row-on, row-off, no-rows, front-gives, others-decide}
-use Rattle.rules.proofs.Fronts.{shortRoom, ofTriangles, triangles-front}
+use Rattle.rules.proofs.Fronts.{triangles-front}
 use Rattle.rules.proofs.Coordinates.{points-length}
 use Rattle.hertel_mehlhorn.proofs.refusal.Statement.{statement}
 use Rattle.hertel_mehlhorn.proofs.refusal.Tie as tie
@@ -24,7 +24,7 @@ module _ (cs : List Float) (tri : List ℕ) (room places : ℕ) {n : ℕ} (first
   early d = front-gives (triangles-front cs tri room places) first d
 
   module _ (none : n ≡ 0) where
-    rest-decides : rows ≡ firstRefusal (ofTriangles cs tri room places)
+    rest-decides : rows ≡ firstRefusal (triangleChecks (pointsOf cs) tri room places)
     rest-decides = others-decide (triangles-front cs tri room places) (sym first ∙ none)
 
     range-is : {t : Bool} → outOfRange (length cs / 2) tri ≡ t → outOfRange (length (pointsOf cs)) tri ≡ t
@@ -34,7 +34,7 @@ module _ (cs : List Float) (tri : List ℕ) (room places : ℕ) {n : ℕ} (first
     out e = sym (rest-decides ∙ row-on 9 _ (range-is e))
 
     module _ (within : outOfRange (length cs / 2) tri ≡ false) where
-      room-decides : rows ≡ firstRefusal (shortRoom tri room places gives 6 ∷ [])
+      room-decides : rows ≡ firstRefusal (shortToMerge tri room places gives 6 ∷ [])
       room-decides = rest-decides ∙ row-off 9 _ (range-is within)
 
       short : room < length tri → 6 ≡ rows
