@@ -240,7 +240,7 @@ array-share-prefix-triangles c = omega (arith, final (lowest (c .before)) .room,
 slice-aggregate-copy : tie.Need-slice-aggregate-copy Inv-loop μ-loop
 slice-aggregate-copy c =
     let w = c .before in
-    sym (length-take-le _ _ (omega (arith, final (lowest (w .before)) .room, whole w)))
+    sym (length-take-le (loop-left (lowest (w .before)) .loop .k + 3) _ (omega (arith, final (lowest (w .before)) .room, whole w)))
 
 copy-requires : tie.Need-copy-requires Inv-loop μ-loop
 copy-requires c κs =
