@@ -6,7 +6,7 @@ use lib.ListN.{length}
 use lib.Ieee.{Float}
 use Rattle.rules.specs.Limits.{mostPoints}
 use Rattle.rules.specs.Grid.{pointsOf}
-use Rattle.rules.specs.Refusals.{_gives_, offGrid, noEar, countChecks, outlineChecks, ringChecks, beforeCutting, cutterChecks, listChecks, beforeTriangles, triangleChecks, mergerChecks, pointTestChecks}
+use Rattle.rules.specs.Refusals.{_gives_, offGrid, noEar, shortToCut, countChecks, outlineChecks, ringChecks, beforeCutting, cutterChecks, listChecks, beforeTriangles, triangleChecks, mergerChecks, pointTestChecks}
 use Rattle.rules.proofs.Rows.{Front}
 
 -- ---- an outline
@@ -17,7 +17,7 @@ count-front least most cs = record { whole = refl; numbered = refl }
 
 -- ---- the cutter
 
-pub cutter-front : (cs : List Float) (room : ℕ) → Front (outlineChecks 3 mostPoints cs) (ringChecks (pointsOf cs) room) (beforeCutting cs room)
+pub cutter-front : (cs : List Float) (room : ℕ) → Front (outlineChecks 3 mostPoints cs) (ringChecks (pointsOf cs) (shortToCut (pointsOf cs) room)) (beforeCutting cs room)
 unfolding countChecks outlineChecks beforeCutting
 cutter-front cs room = record { whole = refl; numbered = refl }
 

@@ -32,3 +32,7 @@ pub mod Accepted
 pub mod Results
 pub mod Steps
 pub mod Both
+pub mod TextNumbers
+pub mod TextLines
+pub mod TextLengths
+pub mod TextCases

@@ -21,5 +21,5 @@ triples (a ∷ b ∷ []) = []
 triples (a ∷ b ∷ c ∷ rest) = (a ∷ b ∷ c ∷ []) ∷ triples rest
 
 -- a lent slice whose first elements were written, and whose others keep their contents
-abbrev pub over : List ℕ → List ℕ → List ℕ
+abbrev pub over : {A : Type 0} → List A → List A → List A
 over written old = written ++ drop (length written) old

@@ -12,4 +12,6 @@ pub mod Layout
 pub mod Refusals
 pub mod Entries
 pub mod Measure
+pub mod Text
+pub mod Lines
 pub mod Cases

@@ -65,17 +65,17 @@ outlineChecks least most cs = countChecks least most (length cs) ++ (offGrid cs 
 
 -- ---- the orders. Of the slices for output only the lengths are asked
 
--- of the ring of corners, and of room for its triangles
-abbrev pub ringChecks : List Pt → ℕ → List Row
-ringChecks ps room =
+-- of the ring of corners, and of room for what comes of it
+abbrev pub ringChecks : List Pt → Bool → List Row
+ringChecks ps short =
     equalNeighbours ps gives 5
-    ∷ shortToCut ps room gives 6
+    ∷ short gives 6
     ∷ []
 
 -- the cutter's rows that need no cut
 unfoldable pub beforeCutting : List Float → ℕ → List Row
 unfolding outlineChecks equalNeighbours
-beforeCutting cs room = outlineChecks 3 mostPoints cs ++ ringChecks (pointsOf cs) room
+beforeCutting cs room = outlineChecks 3 mostPoints cs ++ ringChecks (pointsOf cs) (shortToCut (pointsOf cs) room)
 
 unfoldable pub cutterChecks : List Float → ℕ → List Row
 unfolding beforeCutting noEar
