@@ -84,7 +84,7 @@ pub record Accepted (ps : List Pt) (room : ℕ) : Type 0 where
   pub triangles : List (Corner ℕ)
   pub is-cut : cut ps ≡ done triangles
 
-not-stuck : (c : Cut) → isStuck c ≡ false → (ts : List (Corner ℕ)) × (c ≡ done ts)
+pub not-stuck : (c : Cut) → isStuck c ≡ false → (ts : List (Corner ℕ)) × (c ≡ done ts)
 not-stuck stuck h = impossible (cc)
 not-stuck (done ts) h = (ts, refl)
 

@@ -36,3 +36,7 @@ pub mod TextNumbers
 pub mod TextLines
 pub mod TextLengths
 pub mod TextCases
+pub mod Plans
+pub mod FillRows
+pub mod FillResults
+pub mod FillRoom

@@ -1,9 +1,9 @@
 -- Laws of a list of refusals: what the number that it gives says of its rows, and back.
 use Prim.Native.Nat.{ℕ, suc}
 use mathlib.Core.Path.{_≡_, refl, sym, _∙_, ap}
-use mathlib.Core.Logic.{_≢_}
+use mathlib.Core.Logic.{_⊎_, inl, inr, _≢_}
 use mathlib.Core.Bool.{Bool, true, false, _||_}
-use mathlib.Core.List.{List, [], _∷_, _++_}
+use mathlib.Core.List.{List, [], _∷_, _++_, map, List·Memᴰ, List·Memᴰ·head, List·Memᴰ·tail, List·Memᴰ·cases-cons}
 use native.Mathlib.Omega.{arith}
 use lib.Dec.{eqb}
 use Rattle.algebra.proofs.Equal.{impossible, eqb-same, or-false}
@@ -37,6 +37,20 @@ pub applies : (t : Bool) (n : ℕ) → firstRefusal (t gives suc n ∷ []) ≡ s
 unfolding firstRefusal
 applies true n h = refl
 applies false n h = absurd (omega arith)
+
+abbrev pub numberOf : Row → ℕ
+numberOf (t gives n) = n
+
+-- what a list gives is the number of a row, or 0
+pub given-number : (rows : List Row) → List·Memᴰ (firstRefusal rows) (0 ∷ map numberOf rows)
+unfolding firstRefusal
+given-number [] = List·Memᴰ·head refl
+given-number (true gives k ∷ rows) = List·Memᴰ·tail (List·Memᴰ·head refl)
+given-number (false gives k ∷ rows) = go (List·Memᴰ·cases-cons (given-number rows))
+  where
+    go : (firstRefusal rows ≡ 0) ⊎ List·Memᴰ (firstRefusal rows) (map numberOf rows) → List·Memᴰ (firstRefusal rows) (0 ∷ k ∷ map numberOf rows)
+    go (inl e) = List·Memᴰ·head e
+    go (inr m) = List·Memᴰ·tail (List·Memᴰ·tail m)
 
 -- ---- rows in front of others
 

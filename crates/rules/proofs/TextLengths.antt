@@ -11,6 +11,7 @@ use lib.IntN.{ℤ, pos, negsuc, natAbs}
 use borrow.Author.Tests.{ltb-true, ltb-false}
 use Rattle.algebra.specs.Lists.{Each, end, _&_}
 use Rattle.algebra.proofs.Lists.{each-++}
+use Rattle.algebra.specs.Sums.{total, naturals}
 use Rattle.rules.specs.Plane.{Pt}
 use Rattle.rules.specs.Text.{natural, decimal, pointText, behind, parted, ringText, areaText, multipolygonLine}
 use Rattle.rules.proofs.TextNumbers.{natural-one, natural-split}
@@ -59,21 +60,13 @@ piece-short : (ps : List Pt) → Each OnGrid ps → length (areaText ps) ≤ 13 
 unfolding areaText
 piece-short ps h = omega (arith, length-append (ringText ps) (41 ∷ []), ring-short ps h)
 
-pub cornersIn : List (List Pt) → ℕ
-cornersIn [] = 0
-cornersIn (r ∷ rs) = length r + cornersIn rs
-
-pieces-short : (rs : List (List Pt)) → Each (Each OnGrid) rs → length (behind (map areaText rs)) ≤ 13 * cornersIn rs + 17 * length rs
-unfolding behind cornersIn
+pieces-short : (rs : List (List Pt)) → Each (Each OnGrid) rs → length (behind (map areaText rs)) ≤ 13 * total naturals length rs + 17 * length rs
+unfolding behind
 pieces-short [] end = omega arith
 pieces-short (r ∷ rs) (h & hs) = omega (arith, length-append (areaText r) (behind (map areaText rs)), piece-short r h, pieces-short rs hs)
 
-pub line-short : (rs : List (List Pt)) → Each (Each OnGrid) rs → length (multipolygonLine rs) ≤ 15 + 13 * cornersIn rs + 17 * length rs
-unfolding multipolygonLine parted cornersIn
+pub line-short : (rs : List (List Pt)) → Each (Each OnGrid) rs → length (multipolygonLine rs) ≤ 15 + 13 * total naturals length rs + 17 * length rs
+unfolding multipolygonLine parted
 line-short [] end = omega arith
 line-short (r ∷ rs) (h & hs) =
     omega (arith, length-append (areaText r ++ behind (map areaText rs)) (41 ∷ []), length-append (areaText r) (behind (map areaText rs)), piece-short r h, pieces-short rs hs)
-
--- 510 pieces with 1,530 corners, the most that a cut of 512 corners has, take at most 28,575 bytes
-pub fill-fits : (rs : List (List Pt)) → Each (Each OnGrid) rs → cornersIn rs ≤ 1530 → length rs ≤ 510 → length (multipolygonLine rs) ≤ 28575
-fill-fits rs h c n = omega (arith, line-short rs h)

@@ -14,4 +14,5 @@ pub mod Entries
 pub mod Measure
 pub mod Text
 pub mod Lines
+pub mod TextCases
 pub mod Cases

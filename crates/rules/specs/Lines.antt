@@ -96,7 +96,7 @@ polygonWriter cs out = writing (polygonChecks cs (length out)) (polygonLine (poi
 
 -- the areas of an outline: the merge of the cut
 unfoldable pub areasFor : List Pt → List (List ℕ)
-unfolding merge trianglesFor
+unfolding mayJoin merge trianglesFor
 areasFor ps = merge (mayJoin ps) (trianglesFor ps)
 
 -- a corner with a number that is not from -1024 to 1024
@@ -118,8 +118,9 @@ beforeRing corners = countChecks 3 mostPoints (2 * length corners) ++ (offCorner
 unfoldable pub fillChecks : List Pt → ℕ → List Row
 unfolding beforeRing equalNeighbours noEar
 fillChecks corners room =
-    (beforeRing corners ++ ringChecks corners (ltb room (fillRoom (length corners))))
-    ++ (noEar corners gives 7 ∷ [])
+    beforeRing corners
+    ++ (ringChecks corners (ltb room (fillRoom (length corners)))
+    ++ (noEar corners gives 7 ∷ []))
 
 -- the plan, triangles or areas, as a MULTIPOLYGON line
 unfoldable pub filler : (List Pt → List (List ℕ)) → List ℕ → List Pt → Writing

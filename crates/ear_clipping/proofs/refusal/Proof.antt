@@ -12,7 +12,7 @@ use lib.ListN.{length}
 use lib.Ieee.{Float}
 use Rattle.rules.specs.Limits.{mostPoints}
 use Rattle.rules.specs.Grid.{pointsOf}
-use Rattle.rules.specs.Refusals.{firstRefusal, ringChecks, equalNeighbours, outlineChecks, beforeCutting}
+use Rattle.rules.specs.Refusals.{firstRefusal, ringChecks, shortToCut, equalNeighbours, outlineChecks, beforeCutting}
 use Rattle.rules.proofs.Rows.{row-on, row-off, no-rows, front-gives, others-decide}
 use Rattle.rules.proofs.Fronts.{cutter-front}
 use Rattle.rules.proofs.Coordinates.{points-length}
@@ -40,7 +40,7 @@ module _ (cs : List Float) (room : ℕ) {n : ℕ} (first : n ≡ firstRefusal (o
     small : length cs / 2 ≤ mostPoints
     small = omega (arith, facts .at-most, points-length cs)
 
-    rest-decides : firstRefusal (beforeCutting cs room) ≡ firstRefusal (ringChecks (pointsOf cs) room)
+    rest-decides : firstRefusal (beforeCutting cs room) ≡ firstRefusal (ringChecks (pointsOf cs) (shortToCut (pointsOf cs) room))
     rest-decides = others-decide (cutter-front cs room) (sym first ∙ none)
 
     equal : equalNeighbours (pointsOf cs) ≡ true → 5 ≡ firstRefusal (beforeCutting cs room)

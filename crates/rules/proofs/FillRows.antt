@@ -1,0 +1,139 @@
+-- The rows of filling a line: what they leave where none applies, and that the cutter's rows say the same of the coordinates that were read.
+use Prim.Native.Nat.{ℕ, _*_, _-_, _/_, _≤_}
+use mathlib.Core.Path.{_≡_, refl, sym, _∙_, ap, ap₂}
+use mathlib.Core.Logic.{_≢_}
+use mathlib.Core.Bool.{Bool, true, false, cond}
+use mathlib.Core.List.{List, [], _∷_, _++_, append-assoc}
+use native.Mathlib.Omega.{arith}
+use native.Mathlib.Decide.{ℕ-discrete}
+use borrow.Author.Tests.{lt-ltb, le-ltb}
+use lib.Dec.{ltb}
+use lib.ListN.{length}
+use lib.Ieee.{Float}
+use Rattle.algebra.proofs.Equal.{ltb-false}
+use Rattle.rules.specs.Limits.{mostPoints, mostIndices}
+use Rattle.rules.specs.Plane.{Pt}
+use Rattle.rules.specs.Grid.{pointsOf}
+use Rattle.rules.specs.Cut.{cut}
+use Rattle.rules.specs.Refusals.{Row, _gives_, firstRefusal, offGrid, equalNeighbours, noEar, shortToCut, countChecks, outlineChecks, ringChecks, beforeCutting, cutterChecks}
+use Rattle.rules.specs.Lines.{offCorners, fillRoom, beforeRing, fillChecks}
+use Rattle.rules.proofs.Rows.{passes, Front, front-gives, front-none, others-decide}
+use Rattle.rules.proofs.Outlines.{counted}
+use Rattle.rules.proofs.Accepted.{Accepted, no-equals→apart, not-stuck}
+use Rattle.rules.proofs.Fronts.{cutter-front, seven-front}
+
+-- ---- what they leave
+
+pub grid-front : (corners : List Pt) → Front (countChecks 3 mostPoints (2 * length corners)) (offCorners corners gives 4 ∷ []) (beforeRing corners)
+unfolding countChecks beforeRing
+grid-front corners = record { whole = refl; numbered = refl }
+
+-- the number of corners is in order, and they are on the grid
+pub record Sound (corners : List Pt) : Type 0 where
+  pub three : 3 ≤ length corners
+  pub at-most : length corners ≤ mostPoints
+  pub on-grid : offCorners corners ≡ false
+
+pub sound : (corners : List Pt) → firstRefusal (beforeRing corners) ≡ 0 → Sound corners
+sound corners e =
+    let none = front-none (grid-front corners) e in
+    let c = counted 3 mostPoints (2 * length corners) none in
+    let off = passes (offCorners corners) 3 [] (sym (others-decide (grid-front corners) none) ∙ e) .0 in
+    record { three = omega (arith, c .at-least); at-most = omega (arith, c .at-most); on-grid = off }
+
+module _ (corners : List Pt) (room : ℕ) where
+  abbrev short : Bool
+  short = ltb room (fillRoom (length corners))
+
+  pub corners-front : Front (beforeRing corners) (ringChecks corners short ++ (noEar corners gives 7 ∷ [])) (fillChecks corners room)
+  unfolding countChecks beforeRing fillChecks
+  corners-front = record { whole = refl; numbered = refl }
+
+  -- an outline that is filled
+  pub record Filled : Type 0 where
+    pub outline : Accepted corners (3 * (length corners - 2))
+    pub on-grid : offCorners corners ≡ false
+    pub fits : fillRoom (length corners) ≤ room
+
+  pub filled : firstRefusal (fillChecks corners room) ≡ 0 → Filled
+  unfolding noEar
+  filled e =
+      let first = front-none corners-front e in
+      let s = sound corners first in
+      let (equal, e₅) = passes (equalNeighbours corners) 4 _ (sym (others-decide corners-front first) ∙ e) in
+      let (roomy, e₆) = passes short 5 _ e₅ in
+      let (ear, last) = passes (noEar corners) 6 _ e₆ in
+      let (ts, is) = not-stuck (cut corners) ear in
+      let enough : 3 * (length corners - 2) ≤ 3 * (length corners - 2) = omega arith in
+      record {
+        outline = record {
+          three = s .three;
+          at-most = s .at-most;
+          neighbours = no-equals→apart corners equal;
+          fits = enough;
+          triangles = ts;
+          is-cut = is;
+        };
+        on-grid = s .on-grid;
+        fits = ltb-false room (fillRoom (length corners)) roomy;
+      }
+
+-- ---- the cutter's
+
+-- the coordinates stand for the corners, but for those off the grid
+pub record StandFor (cs : List Float) (corners : List Pt) : Type 0 where
+  pub pairs : length cs ≡ 2 * length corners
+  pub off-grid : offGrid cs ≡ offCorners corners
+  pub points : offCorners corners ≡ false → pointsOf cs ≡ corners
+
+-- where there is no room for the text, no index is lent
+abbrev pub lent : ℕ → ℕ → ℕ
+lent n room = cond (ltb room (fillRoom n)) 0 mostIndices
+
+module _ (cs : List Float) (corners : List Pt) (room : ℕ) (s : StandFor cs corners) where
+  same-front : outlineChecks 3 mostPoints cs ≡ beforeRing corners
+  unfolding outlineChecks beforeRing
+  same-front = ap₂ (λ (n : ℕ) (off : Bool). countChecks 3 mostPoints n ++ (off gives 4 ∷ [])) (s .pairs) (s .off-grid)
+
+  abbrev n : ℕ
+  n = length corners
+
+  same-short : Sound corners → ltb (lent n room) (3 * (n - 2)) ≡ ltb room (fillRoom n)
+  same-short h = go (ltb room (fillRoom n))
+    where
+      go : (t : Bool) → ltb (cond t 0 mostIndices) (3 * (n - 2)) ≡ t
+      go true = lt-ltb 0 (3 * (n - 2)) (omega (arith, h .three))
+      go false = le-ltb mostIndices (3 * (n - 2)) (omega (arith, h .at-most))
+
+  abbrev rows : List Row → List Pt → Bool → List Row
+  rows front ps short = front ++ (ringChecks ps short ++ (noEar ps gives 7 ∷ []))
+
+  cutter-rows : cutterChecks cs (lent n room) ≡ rows (outlineChecks 3 mostPoints cs) (pointsOf cs) (shortToCut (pointsOf cs) (lent n room))
+  unfolding cutterChecks beforeCutting
+  cutter-rows = append-assoc (outlineChecks 3 mostPoints cs) (ringChecks (pointsOf cs) (shortToCut (pointsOf cs) (lent n room))) (noEar (pointsOf cs) gives 7 ∷ [])
+
+  fill-rows : fillChecks corners room ≡ rows (beforeRing corners) corners (ltb room (fillRoom n))
+  unfolding fillChecks
+  fill-rows = refl
+
+  same-rows : Sound corners → cutterChecks cs (lent n room) ≡ fillChecks corners room
+  same-rows h =
+      let p = s .points (h .on-grid) in
+      cutter-rows
+      ∙ ap₂ (λ (front : List Row) (ps : List Pt). rows front ps (shortToCut ps (lent n room))) same-front p
+      ∙ ap (rows (beforeRing corners) corners) (same-short h)
+      ∙ sym fill-rows
+
+  -- what the cutter gives for the coordinates is what filling gives for the corners
+  pub same-refusal : firstRefusal (cutterChecks cs (lent n room)) ≡ firstRefusal (fillChecks corners room)
+  same-refusal = go (ℕ-discrete (firstRefusal (beforeRing corners)) 0)
+    where
+      first : firstRefusal (beforeRing corners) ≡ firstRefusal (outlineChecks 3 mostPoints cs)
+      first = ap firstRefusal (sym same-front)
+
+      go : Dec (firstRefusal (beforeRing corners) ≡ 0) → firstRefusal (cutterChecks cs (lent n room)) ≡ firstRefusal (fillChecks corners room)
+      go (yes e) = ap firstRefusal (same-rows (sound corners e))
+      go (no d) =
+          let k = firstRefusal (beforeRing corners) in
+          let a = front-gives (cutter-front cs (lent n room)) {n = k} first d in
+          sym (front-gives (seven-front cs (lent n room)) {n = k} a d) ∙ front-gives (corners-front corners room) {n = k} refl d
