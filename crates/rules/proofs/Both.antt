@@ -21,7 +21,7 @@ use Rattle.rules.specs.Crossing.{odd, oddCrossings}
 use Rattle.rules.specs.Cut.{done, cut}
 use Rattle.rules.specs.Layout.{flatten, triples}
 use Rattle.rules.specs.Refusals.{firstRefusal, outOfRange, listChecks, beforeTriangles, mergerChecks}
-use Rattle.rules.specs.Entries.{cutter, merger, writtenTriangles, writtenPieces}
+use Rattle.rules.specs.Entries.{trianglesFor, cutter, merger, writtenTriangles, writtenPieces}
 use Rattle.rules.specs.Measure.{points, area2, NotRight, NotClockwise, NoneRight}
 use Rattle.rules.proofs.Ears.{cut-not-right}
 use Rattle.rules.proofs.Pieces.{merge-no-right}
@@ -31,7 +31,8 @@ use Rattle.rules.proofs.Rows.{row-off, no-rows, front-none, others-deci
 use Rattle.rules.proofs.Fronts.{seven-front, list-front, triangles-front}
 use Rattle.rules.proofs.Outlines.{Outlined, outline-none}
 use Rattle.rules.proofs.Answers.{cutter-number, cutter-indices, merger-number, merger-written}
-use Rattle.rules.proofs.Accepted.{ready}
+use Rattle.rules.proofs.Accepted.{Accepted, ready}
+use Rattle.rules.proofs.Plans.{triangles-size, triangles-plan}
 use Rattle.rules.proofs.Results.{triangles-are, not-right, cut-result, written-inside, written-area, merged-inside, merged-area, merged-size}
 
 -- ---- the merger's rows on triangles of an outline
@@ -46,22 +47,22 @@ unfolding outOfRange
 in-range-none n end = refl
 in-range-none n (_&_ {a} h k) = rw (lt-ltb a n h) (in-range-none n k)
 
--- none applies where there is room
-rows-pass :
-    (cs : List Float) (ts : List (Corner ℕ)) (room roomForLengths : ℕ) → Outlined 0 mostPoints cs → length ts ≤ mostTriangles
-    → Each (λ t. Each (λ i. i < length (pointsOf cs)) (ringOf t)) ts → 3 * length ts ≤ room → length ts ≤ roomForLengths
-    → firstRefusal (mergerChecks cs (flatten (map ringOf ts)) room roomForLengths) ≡ 0
+-- none applies to the triangles of an accepted outline where there is room
+pub triangles-pass :
+    (cs : List Float) (k room roomForLengths : ℕ) → Outlined 0 mostPoints cs → Accepted (pointsOf cs) k → 3 * (length (pointsOf cs) - 2) ≤ room → length (pointsOf cs) - 2 ≤ roomForLengths
+    → firstRefusal (mergerChecks cs (flatten (trianglesFor (pointsOf cs))) room roomForLengths) ≡ 0
 unfolding listChecks
-rows-pass cs ts room roomForLengths outlines few below fits fits-lengths =
-    let l = flatten (map ringOf ts) in
-    let n : length l ≡ 3 * length ts = triangles-length ts in
+triangles-pass cs k room roomForLengths outlines a fits fits-lengths =
+    let l = flatten (trianglesFor (pointsOf cs)) in
+    let m = length (pointsOf cs) - 2 in
+    let n : length l ≡ 3 * m = ap (λ (ts : List (List ℕ)). length (flatten ts)) (triangles-are a) ∙ triangles-length (a .triangles) ∙ ap (λ (c : ℕ). 3 * c) (cut-count (pointsOf cs) (a .triangles) (a .three) (a .is-cut)) in
     let three : 0 < 3 = lit< tt in
-    let d : length l / 3 ≡ length ts = rw n (mul-div-cancel-left (length ts) three) in
-    let m : length l % 3 ≡ 0 = rw n (mul-mod-right 3 (length ts)) in
-    let whole : not (eqb (length l % 3) 0) ≡ false = rw m in
-    let count : ltb mostTriangles (length l / 3) ≡ false = rw d (le-ltb mostTriangles (length ts) few) in
-    let short : (ltb room (length l) || ltb roomForLengths (length l / 3)) ≡ false = rw (d, n, le-ltb room (3 * length ts) fits) (le-ltb roomForLengths (length ts) fits-lengths) in
-    let range = in-range-none (length (pointsOf cs)) (flat-each (each-map ringOf below)) in
+    let d : length l / 3 ≡ m = rw n (mul-div-cancel-left m three) in
+    let ragged : length l % 3 ≡ 0 = rw n (mul-mod-right 3 m) in
+    let whole : not (eqb (length l % 3) 0) ≡ false = rw ragged in
+    let count : ltb mostTriangles (length l / 3) ≡ false = rw d (le-ltb mostTriangles m (omega (arith, a .at-most))) in
+    let short : (ltb room (length l) || ltb roomForLengths (length l / 3)) ≡ false = rw (d, n, le-ltb room (3 * m) fits) (le-ltb roomForLengths m fits-lengths) in
+    let range = in-range-none (length (pointsOf cs)) (flat-each (triangles-plan (pointsOf cs) k a .below)) in
     let early : firstRefusal (beforeTriangles cs (length l)) ≡ 0 = others-decide (list-front cs (length l)) (outline-none outlines) ∙ row-off 8 _ whole ∙ row-off 10 _ count ∙ no-rows in
     others-decide (triangles-front cs l room roomForLengths) early ∙ row-off 9 _ range ∙ row-off 6 _ short ∙ no-rows
 
@@ -81,10 +82,6 @@ none-right ps (c ∷ ts) e h =
 
 -- ---- both
 
-sizes : (ts : List (Corner ℕ)) → total naturals (λ t. length t - 2) (map ringOf ts) ≡ length ts
-sizes [] = refl
-sizes (t ∷ ts) = omega (arith, sizes ts)
-
 module _ (cs : List Float) (cut-out out lens : List ℕ) (cut-ok : cutter cs cut-out .number ≡ 0)
     (room : 3 * (length (pointsOf cs) - 2) ≤ length out) (room-for-lengths : length (pointsOf cs) - 2 ≤ length lens) where
   abbrev ps : List Pt
@@ -101,8 +98,8 @@ module _ (cs : List Float) (cut-out out lens : List ℕ) (cut-ok : cutter cs cut
   abbrev ts : List (Corner ℕ)
   ts = cut-result cs cut-out cut-ok .outline .triangles
 
-  given-is : given ≡ flatten (map ringOf ts)
-  given-is = cutter-indices cs cut-out cut-ok ∙ ap flatten (triangles-are (cut-result cs cut-out cut-ok .outline))
+  given-is : given ≡ flatten (trianglesFor ps)
+  given-is = cutter-indices cs cut-out cut-ok
 
   outline : Outlined 0 mostPoints cs
   outline =
@@ -112,10 +109,7 @@ module _ (cs : List Float) (cut-out out lens : List ℕ) (cut-ok : cutter cs cut
   -- the merger accepts what the cut has written
   pub merger-takes : merger cs given out lens .number ≡ 0
   merger-takes =
-      let a = cut-result cs cut-out cut-ok .outline in
-      let n = cut-count ps ts (a .three) (a .is-cut) in
-      let below = cut-indices ps ts (a .three) (a .is-cut) in
-      let rows = rows-pass cs ts (length out) (length lens) outline (omega (arith, a .at-most)) below (omega arith) (omega arith) in
+      let rows = triangles-pass cs (length cut-out) (length out) (length lens) outline (cut-result cs cut-out cut-ok .outline) room room-for-lengths in
       merger-number cs given out lens ∙ subst (λ (l : List ℕ). firstRefusal (mergerChecks cs l (length out) (length lens)) ≡ 0) (sym given-is) rows
 
   -- at every grid point the outline's answer is the parity of the merged areas'
@@ -129,7 +123,7 @@ module _ (cs : List Float) (cut-out out lens : List ℕ) (cut-ok : cutter cs cut
   pub both-size : length ps - 2 ≡ total naturals (λ t. length t - 2) pieces
   both-size =
       let a = cut-result cs cut-out cut-ok .outline in
-      sym (merged-size cs given out lens merger-takes ∙ ap (λ l. total naturals (λ t. length t - 2) (triples l)) given-is ∙ ap (total naturals (λ t. length t - 2)) (triangles-back ts) ∙ sizes ts ∙ cut-count ps ts (a .three) (a .is-cut))
+      sym (merged-size cs given out lens merger-takes ∙ ap (λ l. total naturals (λ t. length t - 2) (triples l)) (given-is ∙ ap flatten (triangles-are a)) ∙ ap (total naturals (λ t. length t - 2)) (triangles-back ts) ∙ triangles-size ts ∙ cut-count ps ts (a .three) (a .is-cut))
 
   -- no corner of a merged area turns right if the cut's last triangle is not clockwise
   pub both-turns : NotClockwise ps (lastOf [] (writtenTriangles (cutter cs cut-out))) → Each (NoneRight ps) pieces

@@ -1,13 +1,12 @@
 -- What comes back of a line that is filled: its number and the order of refusals; and demand 3 read over the text that was written.
 use Prim.Native.Nat.{ℕ, _+_, _*_, _-_, _/_, _%_, _≤_, _<_}
-use mathlib.Core.Path.{_≡_, refl, sym, _∙_, ap, subst}
+use mathlib.Core.Path.{_≡_, refl, sym, _∙_, ap, ap₂, subst}
 use mathlib.Core.Logic.{_≢_}
 use mathlib.Core.Bool.{Bool, true, false}
 use mathlib.Core.List.{List, [], _∷_, _++_, map, List·Memᴰ, List·Memᴰ·head, List·Memᴰ·tail, List·Memᴰ·cases-cons}
 use native.Mathlib.Omega.{arith}
-use native.Mathlib.Nat.{mul-mod-right}
 use borrow.Author.Tests.{le-ltb}
-use lib.Dec.{ltb, eqb}
+use lib.Dec.{ltb}
 use lib.ListN.{length, take, drop, length-map}
 use Rattle.algebra.specs.Lists.{Each}
 use Rattle.algebra.proofs.Lists.{each-imp, each-map}
@@ -25,7 +24,7 @@ use Rattle.rules.proofs.Rows.{row-off, passes, numberOf, given-number, 
 use Rattle.rules.proofs.Answers.{unless-number, unless-answered, unless-refused, over-beyond}
 use Rattle.rules.proofs.Layouts.{take-over}
 use Rattle.rules.proofs.TextLines.{in-form-one, multipolygon-injective}
-use Rattle.rules.proofs.FillRows.{sound, corners-front, filled}
+use Rattle.rules.proofs.FillRows.{even, sound, corners-front, filled}
 use Rattle.rules.proofs.Plans.{Plan, Plans}
 
 -- ---- a line that is written, or refused
@@ -57,10 +56,29 @@ module _ {R : Type 0} {line : List ℕ} {eleven : R} {answer : List Pt → R} {r
   eleven-of (in-form {corners = ds} g e) h = absurd (h ds g)
   eleven-of (not-in-form k e) h = e
 
--- ---- the number
+-- ---- the ways to fill a line
 
-even : (n : ℕ) → eqb ((2 * n) % 2) 1 ≡ false
-even n = rw (mul-mod-right 2 n)
+module _ (plan : List Pt → List (List ℕ)) (line out : List ℕ) where
+  pub fills-not : NotInForm line → Fills plan line out (record { number = 11; count = 0; text = out })
+  fills-not h = not-in-form h refl
+
+  module _ (corners : List Pt) (form : InForm line corners) where
+    pub fills-refused : {n : ℕ} → n ≡ firstRefusal (fillChecks corners (length out)) → n ≢ 0 → Fills plan line out (record { number = n; count = 0; text = out })
+    unfolding filler
+    fills-refused {n} e d =
+        in-form form
+        (ap (λ (k : ℕ). record { number = k; count = 0; text = out }) e
+        ∙ sym (writing-refused (fillChecks corners (length out)) (multipolygonLine (map (points corners) (plan corners))) out (λ z. d (e ∙ z))))
+
+    pub fills-written : {n : ℕ} {after : List ℕ} → firstRefusal (fillChecks corners (length out)) ≡ 0 → n ≡ length (multipolygonLine (map (points corners) (plan corners)))
+        → after ≡ over (multipolygonLine (map (points corners) (plan corners))) out → Fills plan line out (record { number = 0; count = n; text = after })
+    unfolding filler
+    fills-written {n} {after} none e f =
+        in-form form
+        (ap₂ (λ (k : ℕ) (l : List ℕ). record { number = 0; count = k; text = l }) e f
+        ∙ sym (writing-answered (fillChecks corners (length out)) (multipolygonLine (map (points corners) (plan corners))) out none))
+
+-- ---- the number
 
 -- 1 is never given
 fill-numbers : (corners : List Pt) (room : ℕ) → List·Memᴰ (firstRefusal (fillChecks corners room)) (0 ∷ 2 ∷ 3 ∷ 4 ∷ 5 ∷ 6 ∷ 7 ∷ [])

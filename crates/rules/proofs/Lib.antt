@@ -31,12 +31,12 @@ pub mod Answers
 pub mod Accepted
 pub mod Results
 pub mod Steps
-pub mod Both
 pub mod TextNumbers
 pub mod TextLines
 pub mod TextLengths
 pub mod TextCases
 pub mod Plans
+pub mod Both
 pub mod FillRows
 pub mod FillResults
 pub mod FillRoom
