@@ -1,7 +1,7 @@
 //! One input, both sides: every number, count, answer and byte must agree, the guard bytes included.
 use crate::inputs::Side;
 use crate::lent::Lent;
-use crate::{expected, ours};
+use crate::{expected, ours, text};
 
 fn differ(entry: &str, inputs: &str, ours: &str, theirs: &str) -> ! {
     eprintln!("{entry}: {inputs}\n  ours:     {ours}\n  expected: {theirs}");
@@ -13,6 +13,25 @@ fn differ(entry: &str, inputs: &str, ours: &str, theirs: &str) -> ! {
 pub struct Linked {
     pub inputs: u64,
     pub accepted: u64,
+    pub filled: u64,
+}
+
+impl Linked {
+    /// A line filled by both plans.
+    pub fn fill(&mut self, line: &[u8], room: usize) {
+        for triangles_only in [false, true] {
+            let (mut a, mut b) = (Lent::new(room), Lent::new(room));
+            let r = ours::fill(line, triangles_only, a.lent());
+            let s = text::fill(line, triangles_only, b.lent());
+            if r != s || a != b {
+                let inputs = format!("triangles {triangles_only}, {room} bytes of room, {:?}", String::from_utf8_lossy(line));
+                let show = |x: &Lent| String::from_utf8_lossy(x.read()).into_owned();
+                differ("fill", &inputs, &format!("{r:?} {:?}", show(&a)), &format!("{s:?} {:?}", show(&b)));
+            }
+            self.inputs += 1;
+            self.filled += (r.number == 0) as u64;
+        }
+    }
 }
 
 impl Side for Linked {

@@ -68,7 +68,8 @@ pub fn short(side: &mut impl Side, i: usize) {
     }
 }
 
-fn random_outline(r: &mut Random) -> Outline {
+/// Corners of any number up to the most and some more, of one of the shapes or at random.
+pub fn random_outline(r: &mut Random) -> Outline {
     let n = match r.below(8) {
         0 => 500 + r.below(20),
         1 | 2 => 16 + r.below(100),
@@ -82,7 +83,7 @@ fn random_outline(r: &mut Random) -> Outline {
 }
 
 /// A room of about so many bytes.
-fn about(r: &mut Random, bytes: usize) -> usize {
+pub fn about(r: &mut Random, bytes: usize) -> usize {
     match r.below(4) {
         0 => (bytes + r.below(9)).saturating_sub(8),
         1 => bytes + r.below(9),

@@ -7,12 +7,14 @@ pub mod checks;
 pub mod expected;
 pub mod inputs;
 pub mod lent;
+pub mod lines;
 pub mod math;
 #[cfg(feature = "linked")]
 pub mod ours;
 pub mod random;
 pub mod records;
 pub mod shapes;
+pub mod text;
 mod transformation;
 mod utils;
 

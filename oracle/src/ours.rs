@@ -10,6 +10,8 @@ extern "C" {
     fn hasplight_hertel_mehlhorn_idx(coords: &[u8], triangles: &[u8], indices: &mut [u8], lengths: &mut [u8]) -> Answer;
     fn hasplight_point_in_poly2d(x: f32, y: f32, coords: &[u8]) -> Verdict;
     fn hasplight_point_in_convex_poly2d(x: f32, y: f32, coords: &[u8]) -> Verdict;
+    fn hasplight_fill_areas(line: &[u8], out: &mut [u8]) -> Answer;
+    fn hasplight_fill_triangles(line: &[u8], out: &mut [u8]) -> Answer;
 }
 
 #[link(name = "radicands", kind = "static")]
@@ -35,4 +37,9 @@ pub fn point_in_poly2d(x: f32, y: f32, coords: &[u8]) -> Verdict {
 
 pub fn point_in_convex_poly2d(x: f32, y: f32, coords: &[u8]) -> Verdict {
     unsafe { hasplight_point_in_convex_poly2d(x, y, coords) }
+}
+
+pub fn fill(line: &[u8], triangles_only: bool, out: &mut [u8]) -> Answer {
+    let entry = if triangles_only { hasplight_fill_triangles } else { hasplight_fill_areas };
+    unsafe { entry(line, out) }
 }

@@ -1,6 +1,7 @@
 // Replays the records on standard input, any number of them: on each input an exported entry must give back what its record says.
 mod record;
 
+use input::more;
 ghost use Prim.Native.Nat.{_+_, _^_, _≤_};
 ghost use mathlib.Core.Path.{_≡_};
 ghost use lib.ListN.{length};
@@ -113,26 +114,6 @@ fn replay_front(list: &mut [u8], n: usize) -> Tally
     let left = t.left;
     shift(list, n - left, n);
     t
-}
-
-struct Got {
-    bytes: usize,
-    failed: bool,
-}
-
-// Reads once, behind the first bytes.
-fn more(list: &mut [u8], have: usize) -> Got
-    requires { ⌜ have ≤ length (now list) ⌝ }
-    ensures { λ r. ⌜ have + r .bytes ≤ length (now (list .entry)) ⌝ }
-    ensures { λ r. ⌜ length (now (list .exit)) ≡ length (now (list .entry)) ⌝ }
-{
-    let room = &mut list[have..];
-    let got = libc::read(0, room);
-    let bytes = io::count(got, room);
-    Got {
-        bytes,
-        failed: got < 0,
-    }
 }
 
 // No records, where these bytes are left.

@@ -2,7 +2,7 @@
 use Prim.Native.Nat.{ℕ, _*_, _-_, _/_, _%_, _≤_, _<_}
 use mathlib.Core.Path.{_≡_, refl, sym, _∙_, ap, ap₂}
 use mathlib.Core.Logic.{_≢_}
-use mathlib.Core.Bool.{Bool, true, false, cond}
+use mathlib.Core.Bool.{Bool, true, false}
 use mathlib.Core.List.{List, [], _∷_, _++_, append-assoc}
 use native.Mathlib.Omega.{arith}
 use native.Mathlib.Nat.{mul-mod-right, mul-div-cancel-left}
@@ -12,7 +12,7 @@ use lib.Dec.{eqb, ltb, lit<}
 use lib.ListN.{length}
 use lib.Ieee.{Float}
 use Rattle.algebra.proofs.Equal.{ltb-false, ltb-is-true}
-use Rattle.rules.specs.Limits.{mostPoints, mostCoordinates, mostIndices}
+use Rattle.rules.specs.Limits.{mostPoints, mostCoordinates}
 use Rattle.rules.specs.Plane.{Pt}
 use Rattle.rules.specs.Grid.{pointsOf}
 use Rattle.rules.specs.Cut.{cut}
@@ -91,57 +91,44 @@ pub record StandFor (cs : List Float) (corners : List Pt) : Type 0 where
   pub off-grid : offGrid cs ≡ offCorners corners
   pub points : offCorners corners ≡ false → pointsOf cs ≡ corners
 
--- where there is no room for the text, no index is lent
-abbrev pub lent : ℕ → ℕ → ℕ
-lent n room = cond (ltb room (fillRoom n)) 0 mostIndices
-
-module _ (cs : List Float) (corners : List Pt) (room : ℕ) (s : StandFor cs corners) where
+-- with room for its indices exactly where there is room for the text
+module _ (cs : List Float) (corners : List Pt) (room k : ℕ) (s : StandFor cs corners) (same-short : Sound corners → ltb k (3 * (length corners - 2)) ≡ ltb room (fillRoom (length corners))) where
   same-front : outlineChecks 3 mostPoints cs ≡ beforeRing corners
   unfolding outlineChecks beforeRing
   same-front = ap₂ (λ (n : ℕ) (off : Bool). countChecks 3 mostPoints n ++ (off gives 4 ∷ [])) (s .pairs) (s .off-grid)
 
-  abbrev n : ℕ
-  n = length corners
-
-  same-short : Sound corners → ltb (lent n room) (3 * (n - 2)) ≡ ltb room (fillRoom n)
-  same-short h = go (ltb room (fillRoom n))
-    where
-      go : (t : Bool) → ltb (cond t 0 mostIndices) (3 * (n - 2)) ≡ t
-      go true = lt-ltb 0 (3 * (n - 2)) (omega (arith, h .three))
-      go false = le-ltb mostIndices (3 * (n - 2)) (omega (arith, h .at-most))
-
   abbrev rows : List Row → List Pt → Bool → List Row
   rows front ps short = front ++ (ringChecks ps short ++ (noEar ps gives 7 ∷ []))
 
-  cutter-rows : cutterChecks cs (lent n room) ≡ rows (outlineChecks 3 mostPoints cs) (pointsOf cs) (shortToCut (pointsOf cs) (lent n room))
+  cutter-rows : cutterChecks cs k ≡ rows (outlineChecks 3 mostPoints cs) (pointsOf cs) (shortToCut (pointsOf cs) k)
   unfolding cutterChecks beforeCutting
-  cutter-rows = append-assoc (outlineChecks 3 mostPoints cs) (ringChecks (pointsOf cs) (shortToCut (pointsOf cs) (lent n room))) (noEar (pointsOf cs) gives 7 ∷ [])
+  cutter-rows = append-assoc (outlineChecks 3 mostPoints cs) (ringChecks (pointsOf cs) (shortToCut (pointsOf cs) k)) (noEar (pointsOf cs) gives 7 ∷ [])
 
-  fill-rows : fillChecks corners room ≡ rows (beforeRing corners) corners (ltb room (fillRoom n))
+  fill-rows : fillChecks corners room ≡ rows (beforeRing corners) corners (ltb room (fillRoom (length corners)))
   unfolding fillChecks
   fill-rows = refl
 
-  same-rows : Sound corners → cutterChecks cs (lent n room) ≡ fillChecks corners room
+  same-rows : Sound corners → cutterChecks cs k ≡ fillChecks corners room
   same-rows h =
       let p = s .points (h .on-grid) in
       cutter-rows
-      ∙ ap₂ (λ (front : List Row) (ps : List Pt). rows front ps (shortToCut ps (lent n room))) same-front p
+      ∙ ap₂ (λ (front : List Row) (ps : List Pt). rows front ps (shortToCut ps k)) same-front p
       ∙ ap (rows (beforeRing corners) corners) (same-short h)
       ∙ sym fill-rows
 
   -- what the cutter gives for the coordinates is what filling gives for the corners
-  pub same-refusal : firstRefusal (cutterChecks cs (lent n room)) ≡ firstRefusal (fillChecks corners room)
+  pub same-refusal : firstRefusal (cutterChecks cs k) ≡ firstRefusal (fillChecks corners room)
   same-refusal = go (ℕ-discrete (firstRefusal (beforeRing corners)) 0)
     where
-      first : firstRefusal (beforeRing corners) ≡ firstRefusal (outlineChecks 3 mostPoints cs)
-      first = ap firstRefusal (sym same-front)
+      same-first : firstRefusal (beforeRing corners) ≡ firstRefusal (outlineChecks 3 mostPoints cs)
+      same-first = ap firstRefusal (sym same-front)
 
-      go : Dec (firstRefusal (beforeRing corners) ≡ 0) → firstRefusal (cutterChecks cs (lent n room)) ≡ firstRefusal (fillChecks corners room)
+      go : Dec (firstRefusal (beforeRing corners) ≡ 0) → firstRefusal (cutterChecks cs k) ≡ firstRefusal (fillChecks corners room)
       go (yes e) = ap firstRefusal (same-rows (sound corners e))
       go (no d) =
-          let k = firstRefusal (beforeRing corners) in
-          let a = front-gives (cutter-front cs (lent n room)) {n = k} first d in
-          sym (front-gives (seven-front cs (lent n room)) {n = k} a d) ∙ front-gives (corners-front corners room) {n = k} refl d
+          let first = firstRefusal (beforeRing corners) in
+          let a = front-gives (cutter-front cs k) {n = first} same-first d in
+          sym (front-gives (seven-front cs k) {n = first} a d) ∙ front-gives (corners-front corners room) {n = first} refl d
 
 -- ---- the reader's
 

@@ -2,6 +2,7 @@
 use oracle::lent::{bytes_of_floats, words};
 use oracle::math::Vector;
 use oracle::shapes::{coords, KINDS};
+use oracle::text::{self, multipolygon, polygon};
 use oracle::{ours, parry};
 use std::hint::black_box;
 use std::time::Instant;
@@ -76,12 +77,46 @@ fn measure(kind: &str, n: usize, outline: &[(i32, i32)]) {
     );
 }
 
+/// A line read, cut, merged and written. Beside it the crate's cut and merge with Rust's own parsing and formatting, of a line that is taken
+/// to be in form.
+fn measure_line(kind: &str, n: usize, outline: &[(i32, i32)]) {
+    let line = polygon(outline).into_bytes();
+    let mut out = vec![0u8; 28575];
+    let answer = ours::fill(&line, false, &mut out);
+    let written = crate_fill(&line);
+    assert_eq!(&out[..answer.count as usize], written.as_bytes(), "{kind} of {n} corners is filled alike");
+    row(
+        kind,
+        n,
+        "line",
+        time(|| {
+            black_box(ours::fill(black_box(&line), false, &mut out));
+        }),
+        time(|| {
+            black_box(crate_fill(black_box(&line)));
+        }),
+    );
+}
+
+fn crate_fill(line: &[u8]) -> String {
+    let points = text::corners(line).expect("the line is in form");
+    let points: Vec<Vector> = points.iter().map(|(x, y)| Vector { x: x.parse().unwrap(), y: y.parse().unwrap() }).collect();
+    let triangles = parry::triangulate_ear_clipping(&points).expect("the outline is cut");
+    let areas = parry::hertel_mehlhorn_idx(&points, &triangles);
+    let corner = |i: &u32| (points[*i as usize].x as i32, points[*i as usize].y as i32);
+    multipolygon(&areas.iter().map(|a| a.iter().map(corner).collect()).collect::<Vec<_>>())
+}
+
 fn main() {
     println!("| outline | corners | job | ours, µs | the crate, µs | ours / the crate |");
     println!("|---|---:|---|---:|---:|---:|");
     for (kind, shape) in KINDS {
         for n in [16, 64, 256, 512] {
-            measure(kind, n, &shape(n));
+            let outline = shape(n);
+            measure(kind, n, &outline);
+            if [64, 512].contains(&n) {
+                measure_line(kind, n, &outline);
+            }
         }
     }
 }

@@ -1,6 +1,7 @@
-//! compare [SECONDS] [SEED]: all short inputs and all roots, then random inputs for so many seconds. Exit status 1 at the first difference.
+//! compare [SECONDS] [SEED]: all short inputs, all roots and some lines, then random inputs for so many seconds. Exit status 1 at the first difference.
 use oracle::checks::Linked;
 use oracle::inputs::{random, short, Side, ROOTS, SHORT};
+use oracle::lines;
 use oracle::random::Random;
 use std::time::{Duration, Instant};
 
@@ -13,10 +14,15 @@ fn main() {
     side.roots(0, ROOTS);
     println!("oracle: {ROOTS} roots, bit for bit: no difference");
     let mut side = Linked::default();
+    lines::fixed().iter().for_each(|line| side.fill(line, 28575));
+    println!("oracle: {} lines that tell rules apart, by both plans: no difference", side.inputs / 2);
+    let mut side = Linked::default();
     let mut r = Random::new(seed);
     let begin = Instant::now();
     while begin.elapsed() < Duration::from_secs(seconds) {
         random(&mut side, &mut r);
+        let line = lines::random(&mut r);
+        side.fill(&line, lines::room(&mut r, &line));
     }
-    println!("oracle: {} random inputs from seed {seed}, {} cuts of them accepted: no difference", side.inputs, side.accepted);
+    println!("oracle: {} random inputs from seed {seed}, {} cuts of them accepted and {} lines filled: no difference", side.inputs, side.accepted, side.filled);
 }

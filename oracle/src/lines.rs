@@ -1,0 +1,58 @@
+//! Lines for the comparison: outlines as text, and damaged ones.
+use crate::inputs::{about, random_outline};
+use crate::random::Random;
+use crate::text::polygon;
+
+/// A line whose first and last point have so many digits.
+fn long(digits: usize, second: &str) -> Vec<u8> {
+    let many = "1".repeat(digits);
+    format!("POLYGON (({many} 0, {second} 0, 1 1, {many} 0))").into_bytes()
+}
+
+/// Lines that tell neighbouring rules apart.
+pub fn fixed() -> Vec<Vec<u8>> {
+    let texts = [
+        "POLYGON ((0 0, 4 0, 4 4, 0 4, 0 0))", "POLYGON ((0 0, 4 0, 0 4, 0 0))", "POLYGON ((99999 0, 1 0, 1 1, 88888 0))", "POLYGON ((99999 0, 1 0, 1 1, 99999 0))",
+        "POLYGON ((5 5, 5 5))", "POLYGON ((5 5))", "POLYGON ((5 5, 6 6, 5 5))", "POLYGON ((00 0, 4 0, 0 4, 00 0))", "POLYGON ((-0 0, 4 0, 0 4, -0 0))", "POLYGON ((+1 0, 4 0, 0 4, +1 0))",
+        "POLYGON ((0 0, 1024 0, 0 -1024, 0 0))", "POLYGON ((0 0, 1025 0, 0 4, 0 0))", "POLYGON ((0 0, -1025 0, 0 4, 0 0))", "POLYGON ((0 0, 0 0, 4 0, 0 0))",
+        "POLYGON ((0 0, 0 4, 4 4, 4 0, 0 0))", "POLYGON ((0 0, 1 0, 2 0, 3 0, 0 0))", "POLYGON((0 0, 4 0, 0 4, 0 0))", "polygon ((0 0, 4 0, 0 4, 0 0))", "POLYGON ((0 0,4 0,0 4,0 0))",
+        "POLYGON ((0  0, 4 0, 0 4, 0 0))", "POLYGON ((0\t0, 4 0, 0 4, 0 0))", "POLYGON ((0 0, 4 0, 0 4, 0 0)) ", "POLYGON ((0 0, 4 0, 0 4, 0 0))\r", "POLYGON ((0 0, 4 0, 0 4, 0 0), (1 1, 2 1, 1 2, 1 1))",
+        "POLYGON EMPTY", "POLYGON (())", "POLYGON ((", "POLYGON ((0 0, 4 0, 0 4, 0 0)", "", " ", "11",
+    ];
+    let mut lines: Vec<Vec<u8>> = texts.iter().map(|t| t.as_bytes().to_vec()).collect();
+    lines.push(long(4082, "1"));
+    lines.push(long(4082, "10"));
+    for (corners, end) in [(512, "0 0))"), (513, "0 0))"), (513, "0 0) )"), (514, "0 1))")] {
+        lines.push(["POLYGON ((".to_string(), "0 0, ".repeat(corners), end.to_string()].concat().into_bytes());
+    }
+    lines
+}
+
+/// A line, most often in form.
+pub fn random(r: &mut Random) -> Vec<u8> {
+    let mut outline = random_outline(r);
+    if r.below(8) == 0 && !outline.is_empty() {
+        let at = r.below(outline.len());
+        outline[at].0 = [1024, -1024, 1025, -1025, i32::MAX, i32::MIN][r.below(6)];
+    }
+    let mut line = polygon(&outline).into_bytes();
+    if r.below(3) == 0 {
+        for _ in 0..1 + r.below(3) {
+            let byte = b"POLYGON(), -0123456789\t\r+."[r.below(27)];
+            let at = r.below(line.len());
+            match r.below(3) {
+                0 => line[at] = byte,
+                1 => line.insert(at, byte),
+                _ => drop(line.remove(at)),
+            }
+        }
+    }
+    line.retain(|&b| b != b'\n');
+    line
+}
+
+/// Room for the answer to a line, most often enough: 15 bytes, and 56 for each comma but the last two.
+pub fn room(r: &mut Random, line: &[u8]) -> usize {
+    let commas = line.iter().filter(|&&b| b == b',').count();
+    about(r, 15 + 56 * commas.saturating_sub(2))
+}
