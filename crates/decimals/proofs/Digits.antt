@@ -4,11 +4,10 @@ use native.Mathlib.Numerals.{lt-of-le-of-ne}
 use native.Mathlib.Nat.{le-antisymm, lt-of-not-le}
 use native.Mathlib.Omega.{arith}
 use mathlib.Core.Path.{_≡_, refl, sym, ap, _∙_}
-use mathlib.Core.Bool.{true, false}
+use mathlib.Core.Bool.{Bool, true, false}
+use mathlib.Core.Logic.{_≢_}
 use mathlib.Core.List.{List, [], _∷_, _++_, append-assoc}
-use lib.Dec.{eqb}
 use lib.ListN.{length, drop, getD}
-use borrow.Author.Tests.{eqb-true, eqb-false}
 use Rattle.rules.specs.Limits.{gridEdge}
 use Rattle.rules.specs.Text.{digit, natural, Digit, Ends}
 use Rattle.rules.proofs.TextNumbers.{Numeral, small, more, spelled, natural-one, starts, starts-above}
@@ -20,14 +19,14 @@ digit-there line i b v e w p q =
     let inside : i < length line = lt-of-not-le (λ k. omega (arith, past line i k)) in
     record { small = omega arith; found = λ h. omega arith; inside = λ h. inside; nowhere = λ h d. omega arith }
 
-below : {line : List ℕ} {i d : ℕ} → DigitAt line i d → (d ≡ 10 → ⊥) → d < 10
+below : {line : List ℕ} {i d : ℕ} → DigitAt line i d → d ≢ 10 → d < 10
 below h p = lt-of-le-of-ne (h .small) p
 
 nowhere : {line : List ℕ} {i d : ℕ} → DigitAt line i d → 10 ≤ d → Digit (getD line i 0) → ⊥
 nowhere {d = d} h p = h .nowhere (le-antisymm (h .small) p)
 
 -- behind a digit the line may end, so the next place is one
-pub inside : {line : List ℕ} {i d : ℕ} → DigitAt line i d → (d ≡ 10 → ⊥) → i < length line
+pub inside : {line : List ℕ} {i d : ℕ} → DigitAt line i d → d ≢ 10 → i < length line
 inside h p = h .inside (below h p)
 
 pub no-digit : (line : List ℕ) (at d : ℕ) → DigitAt line at d → d ≡ 10 → NoNatural line at
@@ -46,7 +45,7 @@ pub record Sofar (line : List ℕ) (at i value : ℕ) : Type 0 where
   pub within : i ≤ length line
   pub worth : value ≡ min n (gridEdge + 1)
 
-pub begun : (line : List ℕ) (at d : ℕ) → DigitAt line at d → (d ≡ 10 → ⊥) → (d ≡ 0 → ⊥) → Sofar line at (at + 1) d
+pub begun : (line : List ℕ) (at d : ℕ) → DigitAt line at d → d ≢ 10 → d ≢ 0 → Sofar line at (at + 1) d
 begun line at d h p q =
     let b : d < 10 = below h p in
     let i : at < length line = h .inside b in
@@ -90,11 +89,11 @@ module _ (line : List ℕ) (at d e : ℕ) (h : DigitAt line at d) (p : d ≡ 0) 
   zero-text : natural 0 ≡ digit 0 ∷ []
   zero-text = natural-one 0 (omega arith)
 
-  zero-alone : e ≡ 10 → NaturalAt line at (at + 1) 0
+  zero-alone : 10 ≤ e → NaturalAt line at (at + 1) 0
   zero-alone q =
       let b : d < 10 = omega arith in
       let i : at < length line = h .inside b in
-      record { n = 0; text = rw zero-text zero-here; ends = ends-at line (at + 1) (k .nowhere q); within = omega arith; worth = omega arith }
+      record { n = 0; text = rw zero-text zero-here; ends = ends-at line (at + 1) (nowhere k q); within = omega arith; worth = omega arith }
 
   zero-before : e < 10 → NoNatural line at
   unfolding NoNatural
@@ -112,5 +111,5 @@ module _ (line : List ℕ) (at d e : ℕ) (h : DigitAt line at d) (p : d ≡ 0) 
           let c : getD line at 0 ≡ digit d = h .found (omega arith) in
           omega arith
 
-  pub zero-told : (eqb e 10 ≡ true → NaturalAt line at (at + 1) 0) × (eqb e 10 ≡ false → NoNatural line at × (_≡_ {A = ℕ} 0 0))
-  zero-told = (λ t. zero-alone (eqb-true e 10 t), λ t. (zero-before (below k (eqb-false e 10 t)), refl))
+  pub zero-told : (ok : Bool) → (ok ≡ true → 10 ≤ e) → (ok ≡ false → e < 10) → (ok ≡ true → NaturalAt line at (at + 1) 0) × (ok ≡ false → NoNatural line at × (_≡_ {A = ℕ} 0 0))
+  zero-told ok f g = (λ t. zero-alone (f t), λ t. (zero-before (g t), refl))

@@ -1,14 +1,14 @@
 -- A number: digits, or a minus and the digits of a number above zero.
+use Prim.Native.Char.{code}
 use Prim.Native.Nat.{ℕ, zero, suc, _+_, _≤_, _<_, min}
 use native.Mathlib.Omega.{arith}
 use mathlib.Core.Path.{_≡_, refl, sym, ap, _∙_}
 use mathlib.Core.Bool.{Bool, true, false}
+use mathlib.Core.Logic.{_≢_}
 use mathlib.Core.List.{List, _∷_, _++_}
-use lib.Dec.{ltb}
 use lib.ListN.{drop, getD}
 use lib.IntN.{pos, negsuc, negℤ}
 use lib.Ieee.{Float, binary32, ofInt}
-use borrow.Author.Tests.{ltb-true, ltb-false}
 use Rattle.rules.specs.Limits.{gridEdge}
 use Rattle.rules.specs.Text.{natural, decimal, Ends}
 use Rattle.rules.specs.Lines.{coordinate}
@@ -31,20 +31,20 @@ unfolding decimal coordinate
 number-plain line at end value v h e =
     record { z = pos (h .n); text = h .text; ends = h .ends; within = h .within; worth = e ∙ ap (λ (x : ℕ). ofInt binary32 (pos x)) (h .worth) }
 
-no-number : (line : List ℕ) (at : ℕ) → (getD line at 0 ≡ 45 → ⊥) → NoNatural line at → NoNumber line at
+no-number : (line : List ℕ) (at : ℕ) → getD line at 0 ≢ code "-" → NoNatural line at → NoNumber line at
 unfolding NoNatural NoNumber decimal
 no-number line at e h (pos n) rest t f = h n rest t f
-no-number line at e h (negsuc n) rest t f = e (first-is line at (45 ∷ (natural (suc n) ++ rest)) t)
+no-number line at e h (negsuc n) rest t f = e (first-is line at (code "-" ∷ (natural (suc n) ++ rest)) t)
 
-pub plain-told : (line : List ℕ) (at end value : ℕ) (v : Float) (ok : Bool) → (getD line at 0 ≡ 45 → ⊥) → Told line at ok end value → v ≡ ofInt binary32 (pos value)
+pub plain-told : (line : List ℕ) (at end value : ℕ) (v : Float) (ok : Bool) → getD line at 0 ≢ code "-" → Told line at ok end value → v ≡ ofInt binary32 (pos value)
     → (ok ≡ true → NumberAt line at end v) × (ok ≡ false → NoNumber line at)
 plain-told line at end value v ok m t is = (λ e. number-plain line at end value v (t .0 e) is, λ e. no-number line at m (t .1 e .0))
 
 -- ---- behind a minus
 
-module _ (line : List ℕ) (at : ℕ) (minus : getD line at 0 ≡ 45) where
-  minus-here : drop at line ≡ 45 ∷ drop (at + 1) line
-  minus-here = next-byte line at 45 minus (omega arith)
+module _ (line : List ℕ) (at : ℕ) (minus : getD line at 0 ≡ code "-") where
+  minus-here : drop at line ≡ code "-" ∷ drop (at + 1) line
+  minus-here = next-byte line at (code "-") minus (omega arith)
 
   number-minus : (end value : ℕ) (v : Float) → NaturalAt line (at + 1) end value → 0 < value → v ≡ ofInt binary32 (negℤ (pos value)) → NumberAt line at end v
   unfolding decimal coordinate
@@ -53,7 +53,7 @@ module _ (line : List ℕ) (at : ℕ) (minus : getD line at 0 ≡ 45) where
       go : (n : ℕ) → drop (at + 1) line ≡ natural n ++ drop end line → value ≡ min n (gridEdge + 1) → NumberAt line at end v
       go zero t w = absurd (omega arith)
       go (suc n) t w =
-          record { z = negsuc n; text = minus-here ∙ ap (λ (l : List ℕ). 45 ∷ l) t; ends = h .ends; within = h .within; worth = is ∙ ap (λ (x : ℕ). ofInt binary32 (negℤ (pos x))) w }
+          record { z = negsuc n; text = minus-here ∙ ap (λ (l : List ℕ). code "-" ∷ l) t; ends = h .ends; within = h .within; worth = is ∙ ap (λ (x : ℕ). ofInt binary32 (negℤ (pos x))) w }
 
   -- there is no number above zero
   minus-fails : ((n : ℕ) (rest : List ℕ) → drop (at + 1) line ≡ natural (suc n) ++ rest → Ends rest → ⊥) → NoNumber line at
@@ -74,9 +74,6 @@ module _ (line : List ℕ) (at : ℕ) (minus : getD line at 0 ≡ 45) where
   no-number-minus h = minus-fails (λ n rest t f. h (suc n) rest t f)
 
   pub minus-told : (end value : ℕ) (v : Float) (ok : Bool) → Told line (at + 1) ok end value → v ≡ ofInt binary32 (negℤ (pos value))
-      → (ltb 0 value ≡ true → NumberAt line at end v) × (ltb 0 value ≡ false → NoNumber line at)
-  minus-told end value v true t is = (
-    λ e. number-minus end value v (t .0 refl) (ltb-true 0 value e) is,
-    λ e. let h : value ≤ 0 = ltb-false 0 value e in no-minus-zero end value (t .0 refl) (omega arith),
-  )
-  minus-told end value v false t is = (λ e. absurd (omega (arith, ltb-true 0 value e, t .1 refl .1)), λ e. no-number-minus (t .1 refl .0))
+      → (above : Bool) → (above ≡ true → 0 < value) → (above ≡ false → value ≡ 0) → (above ≡ true → NumberAt line at end v) × (above ≡ false → NoNumber line at)
+  minus-told end value v true t is above f g = (λ e. number-minus end value v (t .0 refl) (f e) is, λ e. no-minus-zero end value (t .0 refl) (g e))
+  minus-told end value v false t is above f g = (λ e. absurd (omega (arith, f e, t .1 refl .1)), λ e. no-number-minus (t .1 refl .0))

@@ -67,7 +67,7 @@ fn read_natural(line: &[u8], at: usize) -> Natural
     let mut d = digit(line, i);
     if first == 0 {
         return Natural {
-            ok: d == 10,
+            ok: 10 <= d,
             end: i,
             value: 0,
         };

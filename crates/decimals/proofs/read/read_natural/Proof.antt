@@ -3,6 +3,7 @@ use Prim.Native.Nat.{_-_}
 use native.Mathlib.Omega.{arith}
 use mathlib.Core.Path.{refl}
 use borrow.Author.Needs.{needs}
+use borrow.Author.Tests.{leb-true, leb-false}
 use lib.ListN.{length}
 use Rattle.decimals.specs.Reads.{DigitAt}
 use Rattle.decimals.proofs.Flags.{there, nothing}
@@ -39,7 +40,7 @@ digit-requires-2 : tie.Need-digit-requires-2 Inv-loop μ-loop
 digit-requires-2 c κs = search needs
 
 returns-2 : tie.Need-returns-2 Inv-loop μ-loop
-returns-2 c = zero-told _ _ _ _ (first (c .before) .digit .ensures) (c .if2 .taken) (c .before .digit2 .ensures)
+returns-2 c = zero-told _ _ _ _ (first (c .before) .digit .ensures) (c .if2 .taken) (c .before .digit2 .ensures) _ (λ t. omega (arith, leb-true)) (λ t. omega (arith, leb-false))
 
 loop-holds : tie.Need-loop-holds Inv-loop μ-loop
 loop-holds c = (begun _ _ _ (first (c .before) .digit .ensures) (some-digit (c .before) .if1 .left) (c .if2 .left), c .before .digit2 .ensures)

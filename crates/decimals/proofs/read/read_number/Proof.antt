@@ -1,7 +1,9 @@
 -- `read_number` meets its contract: behind a minus stand the digits of a number above zero.
+use Prim.Native.Char.{code}
 use native.Mathlib.Omega.{arith}
 use mathlib.Core.Path.{_≡_, sym, _∙_}
 use borrow.Author.Needs.{needs}
+use borrow.Author.Tests.{ltb-true, ltb-false}
 use denote.Ref.{now}
 use lib.Dec.{lit<}
 use lib.ListN.{getD}
@@ -14,7 +16,7 @@ use Rattle.decimals.proofs.read.read_number.Tie as tie
 abbrev start : tie.Then1 → tie.Start
 start c = c .before .before .before
 
-minus : (c : tie.Then1) → getD (now (start c .args .line)) (start c .args .at) 0 ≡ 45
+minus : (c : tie.Then1) → getD (now (start c .args .line)) (start c .args .at) 0 ≡ code "-"
 minus c = sym (c .before .byte .ensures) ∙ c .if1 .taken
 
 byte-requires : tie.Need-byte-requires
@@ -32,7 +34,7 @@ below-zero-requires c κs = natural-small _ (c .before .read-natural .ensures)
 returns : tie.Need-returns
 returns c =
     let r = c .before .before in
-    minus-told _ _ (minus (r .before)) _ _ _ _ (r .read-natural .ensures) (c .below-zero .ensures)
+    minus-told _ _ (minus (r .before)) _ _ _ _ (r .read-natural .ensures) (c .below-zero .ensures) _ (λ t. omega (arith, ltb-true)) (λ t. omega (arith, ltb-false))
 
 read-natural-requires-2 : tie.Need-read-natural-requires-2
 read-natural-requires-2 c κs = search needs
