@@ -34,5 +34,6 @@ pub mod Steps
 pub mod Both
 pub mod TextNumbers
 pub mod TextLines
+pub mod LineAnswers
 pub mod TextLengths
 pub mod TextCases
