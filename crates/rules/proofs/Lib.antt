@@ -33,6 +33,7 @@ pub mod Results
 pub mod Steps
 pub mod TextNumbers
 pub mod TextLines
+pub mod LineAnswers
 pub mod TextLengths
 pub mod TextCases
 pub mod Plans

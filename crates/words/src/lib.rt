@@ -21,6 +21,19 @@ pub fn copy(from: &[u32], to: &mut [u32])
     }
 }
 
+// Copies all of `from` to the front of `to`.
+pub fn copy_floats(from: &[f32], to: &mut [f32])
+    requires { ⌜ length (now from) ≤ length (now to) ⌝ }
+    ensures { λ r. ⌜ now (to .exit) ≡ over (now (from .entry)) (now (to .entry)) ⌝ }
+{
+    let n = from.len();
+    let mut i = 0;
+    while i < n {
+        to[i] = from[i];
+        i += 1;
+    }
+}
+
 // Number i of the words.
 pub fn word(bytes: &[u8], i: usize) -> u32
     requires { ⌜ i * 4 + 3 < length (now bytes) ⌝ }

@@ -1,0 +1,5 @@
+pub mod Flags
+pub mod Places
+pub mod Digits
+pub mod Numbers
+pub mod Values

@@ -1,0 +1,18 @@
+-- `byte` meets its contract.
+use borrow.Author.Needs.{needs}
+use mathlib.Core.Path.{sym}
+use Rattle.decimals.proofs.Places.{past}
+use Rattle.decimals.proofs.read.byte.Statement.{statement}
+use Rattle.decimals.proofs.read.byte.Tie as tie
+
+shared-slice-read-result : tie.Need-shared-slice-read-result
+shared-slice-read-result c = search needs
+
+returns : tie.Need-returns
+returns c = search needs
+
+returns-2 : tie.Need-returns-2
+returns-2 c = sym (past (c .before .args .line .now) (c .before .args .i) (c .if1 .left))
+
+pub byte-spec : {M : Type 1} → statement M
+byte-spec = tie.close (tie.spec shared-slice-read-result returns returns-2)

@@ -1,0 +1,2 @@
+// Whole numbers in decimal: read from bytes.
+pub mod read;

@@ -1,0 +1,50 @@
+-- What comes back of a line: one result at most; and what the reader gives back, by its refusals.
+use Prim.Native.Nat.{ℕ, _*_, _≤_, _<_}
+use native.Mathlib.Omega.{arith}
+use mathlib.Core.Path.{_≡_, refl, sym, ap, _∙_}
+use mathlib.Core.Logic.{_≢_}
+use mathlib.Core.List.{List}
+use lib.ListN.{length}
+use lib.Ieee.{Float}
+use borrow.Author.Tests.{lt-ltb, le-ltb}
+use Rattle.rules.specs.Limits.{mostPoints}
+use Rattle.rules.specs.Plane.{Pt}
+use Rattle.rules.specs.Layout.{over}
+use Rattle.rules.specs.Refusals.{firstRefusal}
+use Rattle.rules.specs.Text.{NotInForm}
+use Rattle.rules.specs.Lines.{Answers, in-form, not-in-form, Reading, coordinates, readerChecks, reader}
+use Rattle.rules.proofs.Rows.{row-on, row-off, no-rows}
+use Rattle.rules.proofs.Answers.{unless-answered, unless-refused}
+use Rattle.rules.proofs.TextLines.{in-form-one}
+
+-- a line has one list of corners at most, so one answer
+pub answers-one : {R : Type 0} {line : List ℕ} {eleven : R} {answer : List Pt → R} {r s : R} → Answers line eleven answer r → Answers line eleven answer s → r ≡ s
+unfolding NotInForm
+answers-one {line = line} {answer = answer} (in-form f e) (in-form g h) = e ∙ ap answer (in-form-one line _ _ f g) ∙ sym h
+answers-one (in-form f e) (not-in-form n h) = absurd (n _ f)
+answers-one (not-in-form n e) (in-form g h) = absurd (n _ g)
+answers-one (not-in-form n e) (not-in-form m h) = e ∙ sym h
+
+-- ---- the reader
+
+module _ (coords : List Float) (corners : List Pt) where
+  refused : (n : ℕ) → firstRefusal (readerChecks corners (length coords)) ≡ n → n ≢ 0 → reader coords corners ≡ record { number = n; count = 0; coords = coords }
+  unfolding reader
+  refused n e d = unless-refused _ _ (λ z. d (sym e ∙ z)) ∙ ap (λ m. record { number = m; count = 0; coords = coords }) e
+
+  pub reader-three : mostPoints < length corners → reader coords corners ≡ record { number = 3; count = 0; coords = coords }
+  unfolding readerChecks
+  reader-three h = refused 3 (row-on 3 _ (lt-ltb mostPoints (length corners) h)) (λ z. omega arith)
+
+  module _ (few : length corners ≤ mostPoints) where
+    pub reader-six : length coords < 2 * length corners → reader coords corners ≡ record { number = 6; count = 0; coords = coords }
+    unfolding readerChecks
+    reader-six h = refused 6 (row-off 3 _ (le-ltb mostPoints (length corners) few) ∙ row-on 6 _ (lt-ltb (length coords) (2 * length corners) h)) (λ z. omega arith)
+
+    none : 2 * length corners ≤ length coords → firstRefusal (readerChecks corners (length coords)) ≡ 0
+    unfolding readerChecks
+    none h = row-off 3 _ (le-ltb mostPoints (length corners) few) ∙ row-off 6 _ (le-ltb (length coords) (2 * length corners) h) ∙ no-rows
+
+    pub reader-answered : 2 * length corners ≤ length coords → reader coords corners ≡ record { number = 0; count = length corners; coords = over (coordinates corners) coords }
+    unfolding reader
+    reader-answered h = unless-answered _ _ (none h)
