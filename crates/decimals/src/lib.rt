@@ -1,0 +1,2 @@
+// Whole numbers of the grid as decimal text.
+pub mod write;
