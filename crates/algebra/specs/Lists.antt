@@ -1,5 +1,5 @@
--- Lists: what holds of each element, lists in which nothing stands twice, searches, and counting.
-use Prim.Native.Nat.{ℕ, zero, suc}
+-- Lists: what holds of each element, lists in which nothing stands twice, searches, counting, and the sum of numbers.
+use Prim.Native.Nat.{ℕ, zero, suc, _+_}
 use mathlib.Core.Bool.{Bool, false, _||_}
 use mathlib.Core.Logic.{_≢_}
 use mathlib.Core.List.{List, [], _∷_}
@@ -32,3 +32,7 @@ first f (a ∷ rest) = orElse (f a) (first f rest)
 abbrev pub countFrom : ℕ → ℕ → List ℕ
 countFrom i zero = []
 countFrom i (suc n) = i ∷ countFrom (suc i) n
+
+unfoldable pub sum : List ℕ → ℕ
+sum [] = 0
+sum (n ∷ ns) = n + sum ns

@@ -3,3 +3,6 @@ pub mod Places
 pub mod Digits
 pub mod Numbers
 pub mod Values
+pub mod Floats
+pub mod Texts
+pub mod NumberTexts

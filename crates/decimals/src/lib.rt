@@ -1,2 +1,3 @@
-// Whole numbers in decimal: read from bytes.
+// Whole numbers as text, in decimals: read at a place of a line, and written to lent bytes.
 pub mod read;
+pub mod write;

@@ -1,9 +1,15 @@
--- Points and orientations of the code, as the rules' points and turns.
-use Prim.Native.Nat.{zero, suc}
+-- Points and orientations of the code, as the rules' points and turns, and what is asked of coordinates and corner numbers.
+use Prim.Native.Nat.{ℕ, zero, suc, _<_}
+use mathlib.Core.Path.{_≡_}
 use mathlib.Core.Bool.{Bool, true, false, _&&_}
+use mathlib.Core.List.{List}
 use lib.IntN.{ℤ, pos, negsuc}
+use lib.ListN.{length}
+use lib.Ieee.{Float}
+use Rattle.algebra.specs.Lists.{Each}
 use Rattle.rules.specs.Plane.{Pt}
-use Rattle.rules.specs.Grid.{onGrid, pointOf}
+use Rattle.rules.specs.Grid.{onGrid, pointOf, pointsOf}
+use Rattle.rules.specs.Refusals.{offGrid}
 use Rattle.grid.specs.declared.point.Point.{Point}
 use Rattle.grid.specs.declared.point_in_triangle.Orientation.{Orientation}
 use Rattle.grid.specs.declared.point_in_triangle.Orientation.the-variants.{Ccw, Cw, None}
@@ -29,3 +35,8 @@ abbrev pub isCw : Orientation → Bool
 isCw Ccw = false
 isCw Cw = true
 isCw None = false
+
+-- the coordinates are on the grid, and every index of the store is one of a point
+pub record Known (coords : List Float) (store : List ℕ) : Type 0 where
+  pub on-grid : offGrid coords ≡ false
+  pub below : Each (λ i. i < length (pointsOf coords)) store

@@ -11,7 +11,8 @@ use mathlib.Core.Option.{none}
 use Rattle.rules.specs.Merge.{lastFirst, mayJoin, nextJoin, merge}
 use Rattle.rules.specs.Layout.{split, flatten, triples}
 use Rattle.hertel_mehlhorn.specs.Promise.{Written}
-use Rattle.pieces.specs.Pieces.{Known, begun, ring, sum, pieces, Long}
+use Rattle.grid.specs.Points.{Known}
+use Rattle.pieces.specs.Pieces.{begun, ring, pieces, Long}
 use Rattle.joins.specs.Search.{Joins}
 use Rattle.pieces.specs.State.{others, Stands, Joinable, Changed}
 use Rattle.rules.specs.Layout.{over}
@@ -19,13 +20,13 @@ use Rattle.pieces.specs.declared.ring.Ring.{Ring}
 use Rattle.joins.specs.declared.Join.{Join}
 use Rattle.joins.specs.declared.Join.the-variants.{Nowhere, At}
 use Rattle.rules.proofs.Merges.{merge-next, merge-join}
-use Rattle.algebra.specs.Lists.{Each, end, _&_}
-use Rattle.algebra.proofs.Lists.{each-imp}
+use Rattle.algebra.specs.Lists.{Each, end, _&_, sum}
+use Rattle.algebra.proofs.Lists.{each-imp, sum-append}
 use lib.Ieee.{Float}
 use Rattle.rules.specs.Grid.{pointsOf}
 use Rattle.pieces.proofs.Below.{each-first}
 use Rattle.pieces.proofs.Rings.{length-begun}
-use Rattle.pieces.proofs.Lists.{here, sum-append, sum-slice, slice-snoc, slice-none, split-take, length-split, pieces-cons, pieces-snoc}
+use Rattle.pieces.proofs.Lists.{here, sum-slice, slice-snoc, slice-none, split-take, length-split, pieces-cons, pieces-snoc}
 use Rattle.hertel_mehlhorn.proofs.Outputs.{lengths-split}
 
 -- the merge is what is finished, and the merge of what is left

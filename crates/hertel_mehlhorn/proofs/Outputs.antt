@@ -8,12 +8,14 @@ use mathlib.Core.List.{List, [], _∷_, _++_, append-assoc, append-nil, map}
 use lib.ListN.{length, getD, set, take, drop, length-drop}
 use lib.Seq.{slice, take-suc, length-take-le}
 use borrow.Rule.Slice.PartMut.{putMid}
+use Rattle.algebra.specs.Lists.{sum}
+use Rattle.algebra.proofs.Lists.{sum-append}
 use Rattle.algebra.specs.Rings.{begunAt}
 use Rattle.rules.specs.Layout.{split, flatten}
-use Rattle.pieces.specs.Pieces.{ring, sum, pieces}
+use Rattle.pieces.specs.Pieces.{ring, pieces}
 use Rattle.rules.specs.Layout.{over}
 use Rattle.pieces.proofs.Rings.{length-ring}
-use Rattle.pieces.proofs.Lists.{sum-append, sum-slice, pieces-snoc}
+use Rattle.pieces.proofs.Lists.{sum-slice, pieces-snoc}
 use Rattle.pieces.proofs.Writes.{Built, built-length, built-more, built-put, lent-tail, begun-zero}
 
 pub flat-append : (x y : List (List ℕ)) → flatten (x ++ y) ≡ flatten x ++ flatten y

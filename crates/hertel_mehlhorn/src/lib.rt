@@ -13,12 +13,14 @@ use pieces::ring::write_ring;
 ghost use mathlib.Core.Path.{_≡_};
 ghost use Prim.Native.Nat.{_/_, _%_, _≤_};
 ghost use lib.ListN.{length, take, replicate};
+ghost use Rattle.algebra.specs.Lists.{sum};
 ghost use Rattle.rules.specs.Limits.{mostTriangles, mostIndices};
 ghost use Rattle.rules.specs.Grid.{pointsOf};
 ghost use Rattle.rules.specs.Layout.{flatten, triples, over};
 ghost use Rattle.rules.specs.Merge.{mayJoin, merge as mergeOf};
 ghost use Rattle.rules.specs.Refusals.{firstRefusal, outOfRange, beforeTriangles, mergerChecks};
-ghost use Rattle.pieces.specs.Pieces.{pieces, sum, Known};
+ghost use Rattle.grid.specs.Points.{Known};
+ghost use Rattle.pieces.specs.Pieces.{pieces};
 ghost use Rattle.hertel_mehlhorn.specs.Promise.{Written, Promise};
 
 // Writes the pieces one behind the other to `out`, and their lengths to `sizes`.

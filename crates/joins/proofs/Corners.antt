@@ -8,11 +8,12 @@ use lib.Ieee.{Float}
 use Rattle.rules.specs.Grid.{pointsOf}
 use Rattle.rules.specs.Plane.{Pt, turn, point, turnsRight}
 use Rattle.grid.specs.declared.point_in_triangle.Orientation.{Orientation}
-use Rattle.grid.specs.Points.{orientation, isCw}
+use Rattle.grid.specs.Points.{orientation, isCw, Known}
 use Rattle.grid.proofs.Turn.{cw-right}
-use Rattle.pieces.specs.Pieces.{begun, Known}
+use Rattle.pieces.specs.Pieces.{begun}
 use Rattle.pieces.specs.declared.ring.Ring.{Ring}
-use Rattle.pieces.proofs.Below.{each-at, each-begun}
+use Rattle.algebra.proofs.Lists.{each-at}
+use Rattle.pieces.proofs.Below.{each-begun}
 
 -- a corner of a ring, as the code reads it
 pub corner-below : {cs : List Float} {store : List ℕ} → Known cs store → (r : Ring) (d x : ℕ) → d < length (begun store r) → x ≡ getD (begun store r) d 0 → x < length (pointsOf cs)

@@ -10,16 +10,17 @@ use mathlib.Core.List.{List, []}
 use lib.ListN.{getD, drop}
 use lib.Seq.{slice, slice-empty}
 use mathlib.Core.Option.{none, some}
-use Rattle.algebra.specs.Lists.{orElse, first}
+use Rattle.algebra.specs.Lists.{orElse, first, sum}
 use Rattle.algebra.specs.Rings.{begunAt, rotations}
 use Rattle.rules.specs.Merge.{with, follows, mate}
 use Rattle.rules.specs.Layout.{split}
-use Rattle.pieces.specs.Pieces.{ring, sum, pieces, Lies}
+use Rattle.pieces.specs.Pieces.{ring, pieces, Lies}
 use Rattle.pieces.specs.State.{others}
 use Rattle.joins.specs.Search.{begins, Passed, Mated}
 use Rattle.joins.specs.declared.Mate.{Mate}
 use Rattle.joins.specs.declared.Mate.the-variants.{Nobody, Is}
-use Rattle.pieces.proofs.Lists.{sum-append, sum-slice, slice-snoc, slice-none, pieces-cons, pieces-snoc, here}
+use Rattle.algebra.proofs.Lists.{sum-append}
+use Rattle.pieces.proofs.Lists.{sum-slice, slice-snoc, slice-none, pieces-cons, pieces-snoc, here}
 use Rattle.joins.proofs.Scans.{scan-first, scan-none, scan-behind}
 
 -- the pieces from number a up to b have no mate for the edge

@@ -8,11 +8,13 @@ ghost use mathlib.Core.Bool.{false};
 ghost use Prim.Native.Nat.{_+_, _<_, _≤_};
 ghost use lib.ListN.{length, getD};
 ghost use lib.Seq.{slice};
+ghost use Rattle.algebra.specs.Lists.{sum};
 ghost use Rattle.rules.specs.Grid.{pointsOf};
 ghost use Rattle.rules.specs.Plane.{turnsRight};
 ghost use Rattle.rules.specs.Merge.{mayJoin, join, nextJoin};
 ghost use Rattle.rules.specs.Refusals.{offGrid};
-ghost use Rattle.pieces.specs.Pieces.{ring, begun, Within, sum, pieces, Lies, Known};
+ghost use Rattle.grid.specs.Points.{Known};
+ghost use Rattle.pieces.specs.Pieces.{ring, begun, Within, pieces, Lies};
 ghost use Rattle.joins.specs.Search.{begins, holds, Passed, Mated, bentAt, Joins};
 
 // The later piece that holds an edge's reverse, begun there.

@@ -1,30 +1,16 @@
 -- What holds of every index of the store holds of its parts, and of what is written from it.
-use Prim.Native.Nat.{ℕ, zero, suc, _+_, _-_, _<_}
+use Prim.Native.Nat.{ℕ, zero, suc, _+_, _-_}
 use mathlib.Core.Path.{_≡_}
-use mathlib.Core.List.{List, [], _∷_}
-use native.Mathlib.Omega.{arith}
-use lib.ListN.{length, getD, take, drop, replicate, take-append-drop}
+use mathlib.Core.List.{List}
+use lib.ListN.{length, drop, replicate}
 use Rattle.algebra.specs.Lists.{Each, end, _&_}
-use Rattle.algebra.proofs.Lists.{each-++, each-front, each-back}
+use Rattle.algebra.proofs.Lists.{each-++, each-take, each-drop}
 use Rattle.rules.specs.Layout.{over}
 use Rattle.pieces.specs.Pieces.{ring, begun}
 use Rattle.pieces.specs.Write.{joinedStore}
 use Rattle.pieces.specs.declared.ring.Ring.{Ring}
 
--- ---- parts of a list
-
 module _ {P : ℕ → Type 0} where
-  each-take : (n : ℕ) (l : List ℕ) → Each P l → Each P (take n l)
-  each-take n l h = each-front (take n l) (drop n l) (rw (take-append-drop n l) h)
-
-  each-drop : (n : ℕ) (l : List ℕ) → Each P l → Each P (drop n l)
-  each-drop n l h = each-back (take n l) (drop n l) (rw (take-append-drop n l) h)
-
-  pub each-at : (l : List ℕ) (i : ℕ) → i < length l → Each P l → P (getD l i 0)
-  each-at [] i h e = absurd (omega arith)
-  each-at (a ∷ l) zero h (p & e) = p
-  each-at (a ∷ l) (suc i) h (p & e) = each-at l i (omega arith) e
-
   pub each-begun : (store : List ℕ) (r : Ring) → Each P store → Each P (begun store r)
   each-begun store r h =
       let k = each-take (r .len) (drop (r .at) store) (each-drop (r .at) store h) in

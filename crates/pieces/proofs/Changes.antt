@@ -4,19 +4,21 @@ use native.Mathlib.Omega.{arith}
 use native.Mathlib.Numerals.{add-one}
 use mathlib.Core.Path.{_≡_, refl, ap, sym, subst, _∙_}
 use mathlib.Core.List.{List, _∷_, _++_, append-assoc}
-use lib.ListN.{length, take, drop, length-append, length-drop, take-append-drop}
+use lib.ListN.{length, take, drop, length-append, length-drop}
 use lib.Seq.{slice, slice-cons, length-slice, length-take-le, take-at, drop-at}
+use Rattle.algebra.specs.Lists.{sum}
+use Rattle.algebra.proofs.Lists.{sum-append, sum-take}
 use Rattle.algebra.specs.Rings.{begunAt}
 use Rattle.rules.specs.Merge.{lastFirst}
 use Rattle.rules.specs.Layout.{split}
-use Rattle.pieces.specs.Pieces.{begun, ring, sum, pieces, Long}
+use Rattle.pieces.specs.Pieces.{begun, ring, pieces, Long}
 use Rattle.rules.specs.Layout.{over}
 use Rattle.pieces.specs.Write.{joinedStore, joinedLens, lastStart}
 use Rattle.pieces.specs.declared.ring.Ring.{Ring}
 use Rattle.pieces.specs.State.{others, Joinable, Changed}
 use Rattle.pieces.proofs.Rings.{length-ring, length-begun}
 use Rattle.pieces.proofs.Below.{each-joined}
-use Rattle.pieces.proofs.Lists.{sum-append, sum-begun, slice-join, ring-slice, split-append, split-front, split-take, split-begun, length-split, long-append, long-parts, long-begun}
+use Rattle.pieces.proofs.Lists.{sum-begun, slice-join, ring-slice, split-append, split-front, split-take, split-begun, length-split, long-append, long-parts, long-begun}
 use Rattle.rules.proofs.Layouts.{length-over}
 
 -- `new` written at place w over a list, and read again from there
@@ -29,9 +31,6 @@ module _ (front new old : List ℕ) (w : ℕ) (at : length front ≡ w) where
 
   slice-there : (n : ℕ) → length (front ++ new) ≡ n → slice w n (over (front ++ new) old) ≡ new
   slice-there n e = ap (drop w) (take-at (front ++ new) _ n e) ∙ drop-at front new w at
-
-sum-take : (p : ℕ) (ns : List ℕ) → sum (take p ns) ≤ sum ns
-sum-take p ns = let e = sum-append (take p ns) (drop p ns) in let f : sum (take p ns ++ drop p ns) ≡ sum ns = ap sum (take-append-drop p ns) in omega arith
 
 module _ (store lens : List ℕ) (count total a : ℕ) (own : Ring) (b : ℕ) (mate : Ring) (h : Joinable store lens count total a own b mate) where
   abbrev pub at : ℕ

@@ -7,14 +7,11 @@ use mathlib.Core.Path.{_≡_, refl, ap, sym, subst, _∙_}
 use mathlib.Core.List.{List, [], _∷_, _++_}
 use lib.ListN.{length, getD, take, drop, length-take, length-drop, drop-of-length-le, take-append-drop}
 use lib.Seq.{slice, slice-cons, length-take-le, take-suc, take-append-le, drop-append-le, take-take, take-nil, drop-drop, take-at, drop-at}
+use Rattle.algebra.specs.Lists.{sum}
+use Rattle.algebra.proofs.Lists.{sum-append}
 use Rattle.algebra.specs.Rings.{begunAt}
 use Rattle.rules.specs.Layout.{split}
-use Rattle.pieces.specs.Pieces.{ring, sum, pieces, Long, Lies}
-
-pub sum-append : (a b : List ℕ) → sum (a ++ b) ≡ sum a + sum b
-unfolding sum
-sum-append [] b = omega arith
-sum-append (n ∷ a) b = omega (arith, sum-append a b)
+use Rattle.pieces.specs.Pieces.{ring, pieces, Long, Lies}
 
 pub split-append : (a b store : List ℕ) → split (a ++ b) store ≡ split a store ++ split b (drop (sum a) store)
 unfolding split sum

@@ -7,13 +7,15 @@ use mathlib.Core.List.{List, [], _∷_, _++_, append-assoc, append-nil}
 use lib.ListN.{length, getD, set, take, drop, length-append, length-drop, take-append-drop, drop-of-length-le}
 use lib.Seq.{slice, drop-cons, set-at, set-split, length-take-le, take-all, take-at, drop-at, take-take, take-append-seam, drop-append-le, drop-drop}
 use borrow.Rule.Slice.PartMut.{putMid, postOf}
+use Rattle.algebra.specs.Lists.{sum}
+use Rattle.algebra.proofs.Lists.{sum-append}
 use Rattle.algebra.specs.Rings.{begunAt}
-use Rattle.pieces.specs.Pieces.{ring, sum}
+use Rattle.pieces.specs.Pieces.{ring}
 use Rattle.rules.specs.Layout.{over}
 use Rattle.rules.proofs.Layouts.{length-over}
 use Rattle.pieces.specs.Write.{lastStart}
 use Rattle.pieces.proofs.Rings.{length-ring, length-begun}
-use Rattle.pieces.proofs.Lists.{sum-append, slice-snoc, slice-none, ring-slice}
+use Rattle.pieces.proofs.Lists.{slice-snoc, slice-none, ring-slice}
 
 module _ (from : List ℕ) (at n i skip : ℕ) (fits : at + n ≤ length from) where
   pub length-written : length (drop skip (begunAt i (ring from at n))) ≡ n - skip

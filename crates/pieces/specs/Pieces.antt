@@ -1,16 +1,11 @@
 -- The pieces stand one behind the other in a flat store, with a second list of their lengths.
-use Prim.Native.Nat.{ℕ, _+_, _≤_, _<_}
-use mathlib.Core.Path.{_≡_}
-use mathlib.Core.Bool.{false}
+use Prim.Native.Nat.{ℕ, _+_, _≤_}
 use mathlib.Core.List.{List, [], _∷_}
 use lib.ListN.{length, take, drop}
 use lib.Seq.{slice}
-use lib.Ieee.{Float}
-use Rattle.algebra.specs.Lists.{Each}
+use Rattle.algebra.specs.Lists.{sum}
 use Rattle.algebra.specs.Rings.{begunAt}
-use Rattle.rules.specs.Grid.{pointsOf}
 use Rattle.rules.specs.Layout.{split}
-use Rattle.rules.specs.Refusals.{offGrid}
 use Rattle.pieces.specs.declared.ring.Ring.{Ring}
 
 -- n numbers of the store, from `at`
@@ -26,10 +21,6 @@ pub record Within (store : List ℕ) (r : Ring) : Type 0 where
   pub place : r .first ≤ r .len
   pub fits : r .at + r .len ≤ length store
 
-unfoldable pub sum : List ℕ → ℕ
-sum [] = 0
-sum (n ∷ ns) = n + sum ns
-
 -- the pieces number a up to b, the first of which begins at `at`
 abbrev pub pieces : List ℕ → List ℕ → ℕ → ℕ → ℕ → List (List ℕ)
 pieces store lens a b at = split (slice a b lens) (drop at store)
@@ -44,8 +35,3 @@ pub record Lies (store lens : List ℕ) (count a at : ℕ) : Type 0 where
   pub counted : count ≤ length lens
   pub room : at + sum (slice a count lens) ≤ length store
   pub long : Long (slice a count lens)
-
--- the coordinates are on the grid, and every index of the store is one of a point
-pub record Known (coords : List Float) (store : List ℕ) : Type 0 where
-  pub on-grid : offGrid coords ≡ false
-  pub below : Each (λ i. i < length (pointsOf coords)) store

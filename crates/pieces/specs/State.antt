@@ -4,8 +4,8 @@ use mathlib.Core.Path.{_≡_}
 use mathlib.Core.List.{List, _∷_, _++_}
 use lib.ListN.{length, take, drop, getD}
 use lib.Seq.{slice}
-use Rattle.algebra.specs.Lists.{Each}
-use Rattle.pieces.specs.Pieces.{begun, pieces, sum, Lies}
+use Rattle.algebra.specs.Lists.{Each, sum}
+use Rattle.pieces.specs.Pieces.{begun, pieces, Lies}
 use Rattle.pieces.specs.declared.ring.Ring.{Ring}
 use Rattle.rules.specs.Merge.{lastFirst}
 

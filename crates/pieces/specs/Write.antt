@@ -2,8 +2,9 @@
 use Prim.Native.Nat.{ℕ, _+_, _-_}
 use mathlib.Core.List.{List, [], _∷_, _++_}
 use lib.ListN.{length, take, drop}
+use Rattle.algebra.specs.Lists.{sum}
 use Rattle.algebra.specs.Rings.{begunAt}
-use Rattle.pieces.specs.Pieces.{ring, begun, sum}
+use Rattle.pieces.specs.Pieces.{ring, begun}
 use Rattle.pieces.specs.declared.ring.Ring.{Ring}
 
 -- the store after a join of `own` and `mate`: the joined ring, the pieces between the two, and those behind the second, the

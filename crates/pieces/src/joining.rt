@@ -7,7 +7,8 @@ ghost use Prim.Native.Nat.{_+_, _-_, _≤_, _<_};
 ghost use lib.ListN.{length, take};
 ghost use lib.Seq.{slice};
 ghost use Rattle.rules.specs.Layout.{over};
-ghost use Rattle.pieces.specs.Pieces.{Within, sum};
+ghost use Rattle.algebra.specs.Lists.{sum};
+ghost use Rattle.pieces.specs.Pieces.{Within};
 ghost use Rattle.pieces.specs.Write.{joinedStore, joinedLens, lastStart};
 ghost use Rattle.pieces.specs.State.{Joinable, Changed};
 

@@ -13,8 +13,9 @@ use Rattle.rules.specs.Grid.{pointOf, pointsOf}
 use Rattle.rules.specs.Cut.{cut}
 use Rattle.rules.specs.Merge.{mayJoin, merge}
 use Rattle.rules.specs.Layout.{flatten, triples, over}
-use Rattle.rules.specs.Refusals.{firstRefusal, cutterChecks, mergerChecks, pointTestChecks}
+use Rattle.rules.specs.Refusals.{Row, firstRefusal, cutterChecks, mergerChecks, pointTestChecks}
 use Rattle.rules.specs.Entries.{unless, Cutting, Merging, Asking, trianglesOf, trianglesFor, cutter, merger, asking, writtenTriangles, writtenPieces}
+use Rattle.rules.specs.Lines.{Writing, writing}
 use Rattle.rules.proofs.Layouts.{take-over, triangles-length, triangles-back, pieces-back}
 
 -- ---- the laws
@@ -132,3 +133,18 @@ module _ {A : Type 0} (no-answer : A) (test : Pt → List Pt → A) (x y : Float
   -- a refused question is answered with "no"
   pub asking-none : asking no-answer test x y cs .number ≢ 0 → asking no-answer test x y cs .answer ≡ no-answer
   asking-none d = ap (λ (r : Asking A). r .answer) (asking-refused d)
+
+-- ---- lines of text
+
+module _ (rows : List Row) (line out : List ℕ) where
+  pub writing-number : writing rows line out .number ≡ firstRefusal rows
+  unfolding writing
+  writing-number = unless-number (λ (r : Writing). r .number) _ _ (λ n. refl) refl (firstRefusal rows)
+
+  pub writing-answered : firstRefusal rows ≡ 0 → writing rows line out ≡ record { number = 0; count = length line; text = over line out }
+  unfolding writing
+  writing-answered e = unless-answered _ _ e
+
+  pub writing-refused : firstRefusal rows ≢ 0 → writing rows line out ≡ record { number = firstRefusal rows; count = 0; text = out }
+  unfolding writing
+  writing-refused d = unless-refused _ _ d

@@ -21,40 +21,12 @@ use Rattle.rules.specs.Measure.{points, area2}
 use Rattle.rules.specs.Text.{InForm, NotInForm, multipolygonLine}
 use Rattle.rules.specs.Lines.{Answers, in-form, not-in-form, Writing, writing, fillRoom, beforeRing, fillChecks, filler, Fills}
 use Rattle.rules.proofs.Rows.{row-off, passes, numberOf, given-number, front-skips, others-decide}
-use Rattle.rules.proofs.Answers.{unless-number, unless-answered, unless-refused, over-beyond}
+use Rattle.rules.proofs.Answers.{over-beyond, writing-number, writing-answered, writing-refused}
 use Rattle.rules.proofs.Layouts.{take-over}
 use Rattle.rules.proofs.TextLines.{in-form-one, multipolygon-injective}
+use Rattle.rules.proofs.LineAnswers.{answer-of, eleven-of}
 use Rattle.rules.proofs.FillRows.{even, sound, corners-front, filled}
 use Rattle.rules.proofs.Plans.{Plan, Plans}
-
--- ---- a line that is written, or refused
-
-module _ (rows : List Row) (line out : List ℕ) where
-  pub writing-number : writing rows line out .number ≡ firstRefusal rows
-  unfolding writing
-  writing-number = unless-number (λ (r : Writing). r .number) _ _ (λ n. refl) refl (firstRefusal rows)
-
-  pub writing-answered : firstRefusal rows ≡ 0 → writing rows line out ≡ record { number = 0; count = length line; text = over line out }
-  unfolding writing
-  writing-answered e = unless-answered _ _ e
-
-  pub writing-refused : firstRefusal rows ≢ 0 → writing rows line out ≡ record { number = firstRefusal rows; count = 0; text = out }
-  unfolding writing
-  writing-refused d = unless-refused _ _ d
-
--- ---- a line that is answered by its form
-
-module _ {R : Type 0} {line : List ℕ} {eleven : R} {answer : List Pt → R} {r : R} where
-  -- the answer for its corners, whichever fit
-  pub answer-of : Answers line eleven answer r → (corners : List Pt) → InForm line corners → r ≡ answer corners
-  unfolding NotInForm
-  answer-of (in-form {corners = ds} g e) corners form = e ∙ ap answer (in-form-one line ds corners g form)
-  answer-of (not-in-form h e) corners form = absurd (h corners form)
-
-  pub eleven-of : Answers line eleven answer r → NotInForm line → r ≡ eleven
-  unfolding NotInForm
-  eleven-of (in-form {corners = ds} g e) h = absurd (h ds g)
-  eleven-of (not-in-form k e) h = e
 
 -- ---- the ways to fill a line
 

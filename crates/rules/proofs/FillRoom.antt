@@ -17,17 +17,18 @@ use Rattle.rules.specs.Plane.{Pt, point}
 use Rattle.rules.specs.Measure.{points}
 use Rattle.rules.specs.Text.{multipolygonLine}
 use Rattle.rules.specs.Lines.{offCorner, offCorners, fillRoom}
-use Rattle.rules.proofs.TextLengths.{OnGrid, line-short}
+use Rattle.rules.proofs.GridSizes.{GridPoint}
+use Rattle.rules.proofs.TextLengths.{multipolygon-short}
 use Rattle.rules.proofs.Plans.{Plan}
 
-pub corners-on-grid : (corners : List Pt) → offCorners corners ≡ false → Each OnGrid corners
+pub corners-on-grid : (corners : List Pt) → offCorners corners ≡ false → Each GridPoint corners
 unfolding offCorners
 corners-on-grid corners e = each-imp on-grid (none-passes offCorner corners e)
   where
-    on-grid : (p : Pt) → offCorner p ≡ false → OnGrid p
+    on-grid : (p : Pt) → offCorner p ≡ false → GridPoint p
     on-grid p h =
         let (a, b) = or-false (not (leb (natAbs (p .x)) gridEdge)) (not (leb (natAbs (p .y)) gridEdge)) h in
-        (leb-true (natAbs (p .x)) gridEdge (not-false _ a), leb-true (natAbs (p .y)) gridEdge (not-false _ b))
+        record { x-small = leb-true (natAbs (p .x)) gridEdge (not-false _ a); y-small = leb-true (natAbs (p .y)) gridEdge (not-false _ b) }
 
 each-at : {A : Type 0} {P : A → Type 0} (d : A) {l : List A} (i : ℕ) → Each P l → i < length l → P (getD l i d)
 each-at d i end h = absurd (omega arith)
@@ -46,4 +47,4 @@ few-rings (h & hs) = omega (arith, few-rings hs)
 pub plan-fits : (ps : List Pt) (rings : List (List ℕ)) → Plan ps rings → offCorners ps ≡ false → length (multipolygonLine (map (points ps) rings)) ≤ fillRoom (length ps)
 plan-fits ps rings plan off =
     let grid = each-map (points ps) (each-imp (λ t h. each-map (point ps) (each-imp (λ i k. each-at _ i (corners-on-grid ps off) k) h)) (plan .below)) in
-    omega (arith, line-short (map (points ps) rings) grid, length-map rings (points ps), corners-in ps (plan .three), few-rings (plan .three), plan .size)
+    omega (arith, multipolygon-short (map (points ps) rings) grid, length-map rings (points ps), corners-in ps (plan .three), few-rings (plan .three), plan .size)

@@ -2,11 +2,13 @@
 use Prim.Native.Nat.{ℕ}
 use mathlib.Core.Path.{refl}
 use mathlib.Core.List.{List, [], _∷_}
+use lib.Dec.{ltb}
 use lib.ListN.{length}
 use lib.Ieee.{Float}
 use Rattle.rules.specs.Limits.{mostPoints}
 use Rattle.rules.specs.Grid.{pointsOf}
 use Rattle.rules.specs.Refusals.{_gives_, offGrid, noEar, shortToCut, countChecks, outlineChecks, ringChecks, beforeCutting, cutterChecks, listChecks, beforeTriangles, triangleChecks, mergerChecks, pointTestChecks}
+use Rattle.rules.specs.Lines.{polygonRoom, polygonChecks}
 use Rattle.rules.proofs.Rows.{Front}
 
 -- ---- an outline
@@ -42,3 +44,9 @@ triangles-front cs triangles room roomForLengths = record { whole = refl; number
 pub asked-front : (x y : Float) (cs : List Float) → Front (outlineChecks 0 mostPoints cs) (offGrid (x ∷ y ∷ []) gives 4 ∷ []) (pointTestChecks x y cs)
 unfolding countChecks outlineChecks pointTestChecks
 asked-front x y cs = record { whole = refl; numbered = refl }
+
+-- ---- the writer of a POLYGON line
+
+pub polygon-front : (cs : List Float) (room : ℕ) → Front (outlineChecks 1 mostPoints cs) (ltb room (polygonRoom (length (pointsOf cs))) gives 6 ∷ []) (polygonChecks cs room)
+unfolding countChecks outlineChecks polygonChecks
+polygon-front cs room = record { whole = refl; numbered = refl }

@@ -11,19 +11,28 @@ use Rattle.rules.specs.Limits.{mostPoints}
 use Rattle.rules.specs.Plane.{Pt}
 use Rattle.rules.specs.Layout.{over}
 use Rattle.rules.specs.Refusals.{firstRefusal}
-use Rattle.rules.specs.Text.{NotInForm}
+use Rattle.rules.specs.Text.{InForm, NotInForm}
 use Rattle.rules.specs.Lines.{Answers, in-form, not-in-form, Reading, coordinates, readerChecks, reader}
 use Rattle.rules.proofs.Rows.{row-on, row-off, no-rows}
 use Rattle.rules.proofs.Answers.{unless-answered, unless-refused}
 use Rattle.rules.proofs.TextLines.{in-form-one}
 
+module _ {R : Type 0} {line : List ℕ} {eleven : R} {answer : List Pt → R} {r : R} where
+  -- the answer for its corners, whichever fit
+  pub answer-of : Answers line eleven answer r → (corners : List Pt) → InForm line corners → r ≡ answer corners
+  unfolding NotInForm
+  answer-of (in-form {corners = ds} g e) corners form = e ∙ ap answer (in-form-one line ds corners g form)
+  answer-of (not-in-form h e) corners form = absurd (h corners form)
+
+  pub eleven-of : Answers line eleven answer r → NotInForm line → r ≡ eleven
+  unfolding NotInForm
+  eleven-of (in-form {corners = ds} g e) h = absurd (h ds g)
+  eleven-of (not-in-form k e) h = e
+
 -- a line has one list of corners at most, so one answer
 pub answers-one : {R : Type 0} {line : List ℕ} {eleven : R} {answer : List Pt → R} {r s : R} → Answers line eleven answer r → Answers line eleven answer s → r ≡ s
-unfolding NotInForm
-answers-one {line = line} {answer = answer} (in-form f e) (in-form g h) = e ∙ ap answer (in-form-one line _ _ f g) ∙ sym h
-answers-one (in-form f e) (not-in-form n h) = absurd (n _ f)
-answers-one (not-in-form n e) (in-form g h) = absurd (n _ g)
-answers-one (not-in-form n e) (not-in-form m h) = e ∙ sym h
+answers-one a (in-form {corners = corners} form e) = answer-of a corners form ∙ sym e
+answers-one a (not-in-form h e) = eleven-of a h ∙ sym e
 
 -- ---- the reader
 

@@ -11,7 +11,8 @@ use Rattle.rules.specs.Plane.{Pt}
 use Rattle.rules.specs.Grid.{pointsOf}
 use Rattle.rules.specs.Layout.{triples}
 use Rattle.rules.specs.Merge.{mayJoin, merge as mergeOf}
-use Rattle.pieces.specs.Pieces.{sum, pieces}
+use Rattle.algebra.specs.Lists.{sum}
+use Rattle.pieces.specs.Pieces.{pieces}
 use Rattle.pieces.proofs.Lists.{here}
 use Rattle.hertel_mehlhorn.proofs.Merging.{Work, known, work-first, work-next, work-join, joinable, fits, three-left, work-end, work-done}
 use Rattle.hertel_mehlhorn.proofs.merge.Statement.{statement}

@@ -5,7 +5,7 @@ use borrow.Author.Needs.{needs}
 use mathlib.Core.Path.{_≡_, refl, sym, _∙_}
 use lib.Seq.{slice}
 use denote.Ref.{now}
-use Rattle.pieces.specs.Pieces.{sum}
+use Rattle.algebra.specs.Lists.{sum}
 use Rattle.joins.specs.Search.{Passed}
 use Rattle.pieces.proofs.Lists.{Here, here, sum-slice}
 use Rattle.joins.proofs.Scans.{Scanned, scan-first, scan-more, scan-behind, scan-none, scan-found}
