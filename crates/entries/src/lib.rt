@@ -3,7 +3,7 @@ ghost use mathlib.Core.Path.{_≡_};
 ghost use mathlib.Core.Bool.{_||_};
 ghost use Prim.Native.Nat.{_<_};
 ghost use lib.ListN.{length, replicate};
-ghost use Rattle.rules.specs.Limits.{mostCoordinates, mostIndices};
+ghost use Rattle.rules.specs.Limits.{mostCoordinates, mostTriangles, mostIndices};
 
 // Of an outline.
 pub const MOST_POINTS: usize = 512;
@@ -31,6 +31,14 @@ pub fn zeros() -> [u32; MOST_INDICES]
     ensures { λ r. ⌜ r ≡ replicate mostIndices 0 ⌝ }
 {
     [0u32; MOST_INDICES]
+}
+
+// The lengths of the most triangles, and room for those of as many pieces.
+pub fn threes() -> [u32; MOST_TRIANGLES]
+    ensures { λ r. ⌜ length r ≡ mostTriangles ⌝ }
+    ensures { λ r. ⌜ r ≡ replicate mostTriangles 3 ⌝ }
+{
+    [3u32; MOST_TRIANGLES]
 }
 
 // Room for the coordinates of the most points.

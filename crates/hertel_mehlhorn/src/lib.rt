@@ -2,6 +2,7 @@
 use entries::Answer;
 use entries::MOST_POINTS;
 use entries::MOST_TRIANGLES;
+use entries::threes;
 use entries::wide;
 use entries::zeros;
 use grid::outline::outline_refusal;
@@ -12,7 +13,7 @@ use pieces::ring::Ring;
 use pieces::ring::write_ring;
 ghost use mathlib.Core.Path.{_≡_};
 ghost use Prim.Native.Nat.{_/_, _%_, _≤_};
-ghost use lib.ListN.{length, take, replicate};
+ghost use lib.ListN.{length, take};
 ghost use Rattle.algebra.specs.Lists.{sum};
 ghost use Rattle.rules.specs.Limits.{mostTriangles, mostIndices};
 ghost use Rattle.rules.specs.Grid.{pointsOf};
@@ -45,13 +46,6 @@ fn write_pieces(store: &[u32], lens: &[u32], count: usize, out: &mut [u32], size
         at += n;
         k += 1;
     }
-}
-
-fn threes() -> [u32; MOST_TRIANGLES]
-    ensures { λ r. ⌜ length r ≡ mostTriangles ⌝ }
-    ensures { λ r. ⌜ r ≡ replicate mostTriangles 3 ⌝ }
-{
-    [3u32; MOST_TRIANGLES]
 }
 
 // The merge of the given triangles, three indices each: the pieces one behind the other in `indices`, and their lengths in
