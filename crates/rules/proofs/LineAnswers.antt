@@ -1,7 +1,7 @@
 -- What comes back of a line: one result at most; and what the reader gives back, by its refusals.
 use Prim.Native.Nat.{ℕ, _*_, _≤_, _<_}
 use native.Mathlib.Omega.{arith}
-use mathlib.Core.Path.{_≡_, refl, sym, ap, _∙_}
+use mathlib.Core.Path.{_≡_, sym, ap, _∙_}
 use mathlib.Core.Logic.{_≢_}
 use mathlib.Core.List.{List}
 use lib.ListN.{length}
@@ -12,7 +12,7 @@ use Rattle.rules.specs.Plane.{Pt}
 use Rattle.rules.specs.Layout.{over}
 use Rattle.rules.specs.Refusals.{firstRefusal}
 use Rattle.rules.specs.Text.{NotInForm}
-use Rattle.rules.specs.Lines.{Answers, in-form, not-in-form, Reading, coordinates, readerChecks, reader}
+use Rattle.rules.specs.Lines.{Answers, in-form, not-in-form, coordinates, readerChecks, reader}
 use Rattle.rules.proofs.Rows.{row-on, row-off, no-rows}
 use Rattle.rules.proofs.Answers.{unless-answered, unless-refused}
 use Rattle.rules.proofs.TextLines.{in-form-one}
