@@ -1,9 +1,9 @@
 -- Answers with a flag: one thing holds where it is true, another where it is false.
-use mathlib.Core.Path.{_≡_, sym}
-use mathlib.Core.Bool.{true, false, false≢true}
+use mathlib.Core.Path.{_≡_, sym, _∙_}
+use mathlib.Core.Bool.{Bool, true, false, false≢true}
 
 pub there : {A B : Type 0} → A → (true ≡ true → A) × (true ≡ false → B)
 there a = (λ e. a, λ e. absurd (false≢true (sym e)))
 
-pub nothing : {A B : Type 0} → B → (false ≡ true → A) × (false ≡ false → B)
-nothing b = (λ e. absurd (false≢true e), λ e. b)
+pub nothing : {A B : Type 0} {r : Bool} → r ≡ false → B → (r ≡ true → A) × (r ≡ false → B)
+nothing e b = (λ f. absurd (false≢true (sym e ∙ f)), λ f. b)

@@ -10,6 +10,7 @@ use lib.Dec.{ltb}
 use lib.ListN.{length, take, drop}
 use lib.Seq.{length-take-le}
 use lib.Ieee.{Float}
+use Rattle.algebra.proofs.Equal.{ltb-false}
 use Rattle.rules.specs.Limits.{mostPoints, mostCoordinates, mostIndices}
 use Rattle.rules.specs.Plane.{Pt}
 use Rattle.rules.specs.Grid.{pointsOf}
@@ -20,7 +21,9 @@ use Rattle.rules.specs.Text.{InForm, NotInForm}
 use Rattle.rules.specs.Lines.{Answers, Reading, coordinates, offCorners, readerChecks, reader, Reads, fillRoom, fillChecks}
 use Rattle.rules.specs.Lines as Lines
 use Rattle.rules.proofs.Layouts.{take-over}
-use Rattle.rules.proofs.Answers.{unless-number, unless-answered, cutter-number, cutter-indices}
+use Rattle.rules.proofs.Rows.{passes}
+use Rattle.rules.proofs.Answers.{cutter-number, cutter-indices}
+use Rattle.rules.proofs.LineAnswers.{reader-number, reader-answered}
 use Rattle.rules.proofs.Results.{cut-result}
 use Rattle.rules.proofs.FillRows.{Sound, sound, StandFor, same-refusal, reader-refuses, filled}
 use Rattle.entries.specs.declared.Answer.{Answer}
@@ -46,39 +49,48 @@ short-alike n room three most = go (ltb room (fillRoom n))
 pub cut-number : (corners : List Pt) (room : ℕ) → firstRefusal (cutterChecks (coordinates corners) (lentFor (length corners) room)) ≡ firstRefusal (fillChecks corners room)
 cut-number corners room = same-refusal (coordinates corners) corners room (lentFor (length corners) room) (stands corners) (λ s. short-alike (length corners) room (s .three) (s .at-most))
 
--- the reader's answer
-module _ (corners : List Pt) (coords : List Float) (r : Answer) (after : List Float) (e : readingOf r after ≡ reader coords corners) where
+-- the reader's number, and what it leaves of an accepted line
+module _ (corners : List Pt) (coords : List Float) (r : Answer) (after : List Float) (size : length coords ≡ mostCoordinates) (e : readingOf r after ≡ reader coords corners) where
   read-number : r .number ≡ firstRefusal (readerChecks corners (length coords))
-  unfolding reader
-  read-number = ap (λ (w : Reading). w .number) e ∙ unless-number (λ (w : Reading). w .number) _ _ (λ n. refl) refl (firstRefusal (readerChecks corners (length coords)))
+  read-number = ap (λ (w : Reading). w .number) e ∙ reader-number coords corners
 
-  read-answered : r .number ≡ 0 → readingOf r after ≡ record { number = 0; count = length corners; coords = over (coordinates corners) coords }
-  unfolding reader
-  read-answered z = e ∙ unless-answered _ _ (sym read-number ∙ z)
+  module _ (ok : r .number ≡ 0) where
+    few : length corners ≤ mostPoints
+    unfolding readerChecks
+    few = ltb-false mostPoints (length corners) (passes (ltb mostPoints (length corners)) 2 _ (sym read-number ∙ ok) .0)
 
-  read-count : r .number ≡ 0 → r .count ≡ length corners
-  read-count z = ap (λ (w : Reading). w .count) (read-answered z)
+    read : readingOf r after ≡ record { number = 0; count = length corners; coords = over (coordinates corners) coords }
+    read = e ∙ reader-answered coords corners few (omega (arith, few))
 
-  read-coords : r .number ≡ 0 → take (2 * length corners) after ≡ coordinates corners
-  read-coords z =
-      ap (λ (w : Reading). take (2 * length corners) (w .coords)) (read-answered z)
-      ∙ subst (λ (k : ℕ). take k (over (coordinates corners) coords) ≡ coordinates corners) (coordinates-length corners) (take-over (coordinates corners) coords)
+    read-count : r .count ≡ length corners
+    read-count = ap (λ (w : Reading). w .count) read
+
+    read-coords : take (2 * length corners) after ≡ coordinates corners
+    read-coords =
+        ap (λ (w : Reading). take (2 * length corners) (w .coords)) read
+        ∙ subst (λ (k : ℕ). take k (over (coordinates corners) coords) ≡ coordinates corners) (coordinates-length corners) (take-over (coordinates corners) coords)
 
 -- ---- refused by the reader
 
-pub not-read :
-    (line : List ℕ) (room : ℕ) (coords after : List Float) (indices : List ℕ) (r : Answer) → length coords ≡ mostCoordinates → Reads line coords (readingOf r after) → r .number ≢ 0
-    → CutLine line room (record { number = r .number; count = 0 }) after indices
-not-read line room coords after indices r size (Lines.not-in-form h e) d = not-in-form h (ap (λ (w : Reading). w .number) e)
-not-read line room coords after indices r size (Lines.in-form {corners = corners} form e) d =
-    let n = read-number corners coords r after e in
-    in-form form (n ∙ reader-refuses corners (length coords) room (omega arith) (λ z. d (n ∙ z))) (λ z. absurd (d z))
+module _ (line : List ℕ) (room : ℕ) (coords after : List Float) (r : Answer) (size : length coords ≡ mostCoordinates) (reads : Reads line coords (readingOf r after)) where
+  pub not-read : (indices : List ℕ) → r .number ≢ 0 → CutLine line room (record { number = r .number; count = 0 }) after indices
+  not-read indices d = go reads
+    where
+      go : Reads line coords (readingOf r after) → CutLine line room (record { number = r .number; count = 0 }) after indices
+      go (Lines.not-in-form h e) = not-in-form h (ap (λ (w : Reading). w .number) e)
+      go (Lines.in-form {corners = corners} form e) =
+          let n = read-number corners coords r after size e in
+          in-form form (n ∙ reader-refuses corners (length coords) room (omega arith) (λ z. d (n ∙ z))) (λ z. absurd (d z))
 
--- ---- and answered by the cutter
+  -- ---- answered by the cutter
 
-pub read-fits : (line : List ℕ) (coords after : List Float) (r : Answer) → length coords ≡ mostCoordinates → Reads line coords (readingOf r after) → r .number ≡ 0 → r .count ≤ mostPoints
-read-fits line coords after r size (Lines.not-in-form h e) z = absurd (omega (arith, ap (λ (w : Reading). w .number) e))
-read-fits line coords after r size (Lines.in-form {corners = corners} form e) z = omega (arith, read-count corners coords r after e z, few corners (length coords) (sym (read-number corners coords r after e) ∙ z))
-  where
-    few : (corners : List Pt) (room : ℕ) → firstRefusal (readerChecks corners room) ≡ 0 → length corners ≤ mostPoints
-    few corners room none = ?
+  module _ (ok : r .number ≡ 0) where
+    eleven-not : NotInForm line → readingOf r after ≡ record { number = 11; count = 0; coords = coords } → ⊥
+    eleven-not h e = omega (arith, ap (λ (w : Reading). w .number) e)
+
+    pub read-few : r .count ≤ mostPoints
+    read-few = go reads
+      where
+        go : Reads line coords (readingOf r after) → r .count ≤ mostPoints
+        go (Lines.not-in-form h e) = absurd (eleven-not h e)
+        go (Lines.in-form {corners = corners} form e) = omega (arith, read-count corners coords r after size e ok, few corners coords r after size e ok)

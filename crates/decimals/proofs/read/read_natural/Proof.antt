@@ -31,7 +31,7 @@ digit-requires : tie.Need-digit-requires Inv-loop μ-loop
 digit-requires c κs = search needs
 
 returns : tie.Need-returns Inv-loop μ-loop
-returns c = nothing (no-digit _ _ _ (c .before .digit .ensures) (c .if1 .taken), refl)
+returns c = nothing refl (no-digit _ _ _ (c .before .digit .ensures) (c .if1 .taken), refl)
 
 add-i : tie.Need-add-i Inv-loop μ-loop
 add-i c = omega (arith, inside (c .before .digit .ensures) (c .if1 .left))

@@ -1,0 +1,51 @@
+-- What the entry gives back, by what was read; and that two results which its promise allows are equal.
+use Prim.Native.Nat.{ℕ, _*_, _≤_, _<_}
+use native.Mathlib.Omega.{arith}
+use mathlib.Core.Path.{_≡_, refl, sym, ap, ap₂, _∙_}
+use mathlib.Core.List.{List}
+use lib.ListN.{length, take, length-take}
+use lib.Ieee.{Float}
+use Rattle.rules.specs.Limits.{mostPoints}
+use Rattle.rules.specs.Layout.{over}
+use Rattle.rules.specs.Text.{NotInForm}
+use Rattle.rules.specs.Lines.{in-form, not-in-form, Reading, Reads}
+use Rattle.rules.proofs.LineAnswers.{answers-one, reader-three, reader-six, reader-answered}
+use Rattle.entries.specs.declared.Answer.{Answer}
+use Rattle.entries.proofs.Answers.{answers-equal}
+use Rattle.wkt.specs.Reads.{ReadAs}
+use Rattle.wkt.specs.Promise.{readingOf}
+use Rattle.wkt.proofs.Corners.{coordinates-length}
+
+pub refused : (line : List ℕ) (coords : List Float) → NotInForm line → Reads line coords (record { number = 11; count = 0; coords = coords })
+refused line coords h = not-in-form h refl
+
+module _ {line : List ℕ} {n : ℕ} {own : List Float} (r : ReadAs line n own) where
+  pub too-many : (coords : List Float) → mostPoints < n → Reads line coords (record { number = 3; count = 0; coords = coords })
+  too-many coords h = in-form (r .in-form) (sym (reader-three coords (r .corners) (omega (arith, h, r .counted))))
+
+  module _ (few : n ≤ mostPoints) where
+    -- what is held is all that is copied
+    pub held-length : length (take (2 * n) own) ≡ 2 * n
+    held-length = ap length (r .held few) ∙ coordinates-length (r .corners) ∙ ap (λ (k : ℕ). 2 * k) (sym (r .counted))
+
+    pub own-holds : 2 * n ≤ length own
+    own-holds = omega (arith, held-length, length-take (2 * n) own)
+
+    fits : length (r .corners) ≤ mostPoints
+    fits = omega (arith, few, r .counted)
+
+    pub too-little : (coords : List Float) → length coords < 2 * n → Reads line coords (record { number = 6; count = 0; coords = coords })
+    too-little coords h = in-form (r .in-form) (sym (reader-six coords (r .corners) fits (omega (arith, h, r .counted))))
+
+    pub answered : (coords new : List Float) → 2 * n ≤ length coords → new ≡ over (take (2 * n) own) coords → Reads line coords (record { number = 0; count = n; coords = new })
+    answered coords new h e =
+        in-form (r .in-form)
+        (ap₂ (λ (k : ℕ) (l : List Float). record { number = 0; count = k; coords = l }) (r .counted) (e ∙ ap (λ (l : List Float). over l coords) (r .held few))
+        ∙ sym (reader-answered coords (r .corners) fits (omega (arith, h, r .counted))))
+
+-- ---- two results that the promise allows are equal
+
+pub unique : (line : List ℕ) (before : List Float) (r s : Answer) (after after' : List Float) → Reads line before (readingOf r after) → Reads line before (readingOf s after') → (r ≡ s) × (after ≡ after')
+unique line before r s after after' p q =
+    let e : readingOf r after ≡ readingOf s after' = answers-one p q in
+    (answers-equal r s (ap (λ (x : Reading). x .number) e) (ap (λ (x : Reading). x .count) e), ap (λ (x : Reading). x .coords) e)
