@@ -33,7 +33,7 @@ module _ {R : Type 0} (refused : ℕ → R) (answer : R) where
   unless-refused {n = zero} d = absurd (d refl)
   unless-refused {n = suc n} d = refl
 
-pub over-beyond : (written old : List ℕ) → drop (length written) (over written old) ≡ drop (length written) old
+pub over-beyond : {A : Type 0} (written old : List A) → drop (length written) (over written old) ≡ drop (length written) old
 over-beyond written old = drop-append-seam written (drop (length written) old)
 
 -- ---- the cutter

@@ -9,10 +9,10 @@ use Rattle.algebra.specs.Lists.{Each, end, _&_}
 use Rattle.algebra.specs.Rings.{Corner, ringOf}
 use Rattle.rules.specs.Layout.{flatten, split, triples, over}
 
-pub take-over : (written old : List ℕ) → take (length written) (over written old) ≡ written
+pub take-over : {A : Type 0} (written old : List A) → take (length written) (over written old) ≡ written
 take-over written old = take-append-seam written (drop (length written) old)
 
-pub length-over : (written old : List ℕ) → length written ≤ length old → length (over written old) ≡ length old
+pub length-over : {A : Type 0} (written old : List A) → length written ≤ length old → length (over written old) ≡ length old
 length-over written old h = simp (length-append, length-drop) (omega arith)
 
 -- ---- triangles
