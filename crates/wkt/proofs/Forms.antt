@@ -5,7 +5,7 @@ use mathlib.Core.Path.{_≡_, refl, ap, _∙_}
 use mathlib.Core.List.{List, [], _∷_, _++_, map}
 use lib.ListN.{length, drop}
 use Rattle.rules.specs.Plane.{Pt}
-use Rattle.rules.specs.Text.{pointText, behind, InForm, NotInForm, Ends, mostBytes}
+use Rattle.rules.specs.Text.{bytes, pointText, behind, InForm, NotInForm, Ends, mostBytes}
 use Rattle.rules.proofs.TextLines.{ends-behind, closes, line-splits}
 use Rattle.wkt.specs.Reads.{opening, closing, begin, NoPoint}
 
@@ -21,7 +21,7 @@ written line (c ∷ cs) f = record { c = c; cs = cs; text = f .written ∙ line-
 
 -- where points are closed, what stands behind each ends
 pub ends-closed : (ps : List Pt) → Ends (behind (map pointText ps) ++ closing)
-ends-closed ps = ends-behind ps closing (closes (41 ∷ []))
+ends-closed ps = ends-behind ps closing (closes (bytes ")"))
 
 pub too-long : (line : List ℕ) → mostBytes < length line → NotInForm line
 unfolding NotInForm

@@ -5,3 +5,4 @@ pub mod Stores
 pub mod Passing
 pub mod Corners
 pub mod Entry
+pub mod Outcomes

@@ -11,7 +11,7 @@ use Rattle.algebra.specs.Rings.{lastOf}
 use Rattle.algebra.proofs.Rings.{last-++}
 use Rattle.rules.specs.Limits.{mostCoordinates}
 use Rattle.rules.specs.Plane.{Pt}
-use Rattle.rules.specs.Text.{pointText, behind, polygonLine, InForm, NotInForm}
+use Rattle.rules.specs.Text.{bytes, pointText, behind, polygonLine, InForm, NotInForm}
 use Rattle.rules.specs.Lines.{coordinates}
 use Rattle.rules.proofs.TextLines.{point-parse, ends-behind, behind-parse, GoesOn, stops, line-splits}
 use Rattle.wkt.specs.Reads.{opening, parting, closing, begin, Opened, NoParting, PointAt, NoPoint, stored, Held, Passed, ReadAs}
@@ -139,7 +139,7 @@ whole-line line p (q ∷ qs) o e some l =
 -- the points of a line in form go on from those that were passed
 record Going (p : Pt) (qs : List Pt) (r : List ℕ) : Type 0 where
   cs : List Pt
-  goes : GoesOn qs (cs ++ (p ∷ [])) r (41 ∷ [])
+  goes : GoesOn qs (cs ++ (p ∷ [])) r (bytes ")")
 
 module _ {line : List ℕ} {coords : List Float} {after from at n : ℕ} (w : Passed line coords after from at n) where
   going : (corners : List Pt) → InForm line corners → Going (w .p) (w .qs) (drop at line)
@@ -150,7 +150,7 @@ module _ {line : List ℕ} {coords : List Float} {after from at n : ℕ} (w : Pa
       let a : (w .p ≡ g .c) × (R ≡ S)
       = point-parse (w .p) (g .c) R S (ends-behind (w .qs) (drop at line) (w .ends)) (ends-closed (g .cs ++ (g .c ∷ []))) (sym (w .text) ∙ ap (drop begin) (g .text)) in
       let k : R ≡ behind (map pointText (g .cs ++ (w .p ∷ []))) ++ closing = a .1 ∙ ap (λ (q : Pt). behind (map pointText (g .cs ++ (q ∷ []))) ++ closing) (sym (a .0)) in
-      record { cs = g .cs; goes = behind-parse (w .qs) (g .cs ++ (w .p ∷ [])) (drop at line) (41 ∷ []) (w .ends) k }
+      record { cs = g .cs; goes = behind-parse (w .qs) (g .cs ++ (w .p ∷ [])) (drop at line) (bytes ")") (w .ends) k }
 
   pub no-next-point : drop at line ≡ parting ++ drop (at + 2) line → NoPoint line (at + 2) → NotInForm line
   unfolding NotInForm
@@ -162,7 +162,7 @@ module _ {line : List ℕ} {coords : List Float} {after from at n : ℕ} (w : Pa
 
   -- closed, so the points are all there are
   all-passed : (g : Going (w .p) (w .qs) (drop at line)) → drop at line ≡ closing → g .cs ++ (w .p ∷ []) ≡ w .qs
-  all-passed g e = g .goes .whole ∙ ap (λ (l : List Pt). w .qs ++ l) (stops (g .goes .rest) (41 ∷ []) (41 ∷ []) (sym e ∙ g .goes .text) .0) ∙ append-nil (w .qs)
+  all-passed g e = g .goes .whole ∙ ap (λ (l : List Pt). w .qs ++ l) (stops (g .goes .rest) (bytes ")") (bytes ")") (sym e ∙ g .goes .text) .0) ∙ append-nil (w .qs)
 
   one-point : NoParting line at → n < 2 → NotInForm line
   unfolding NotInForm

@@ -32,7 +32,7 @@ pub struct Spot {
     pub y: f32,
 }
 
-// The points of a line: how many, where the first ends, and from where to where the last stands. None where something else stands for a point.
+// The points of a line: how many, where the first ends, and from where to where the last stands. The count is 0 where a point is missing.
 pub struct Points {
     pub count: usize,
     pub after: usize,
