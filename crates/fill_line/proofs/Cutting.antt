@@ -3,33 +3,28 @@ use Prim.Native.Nat.{ℕ, _+_, _*_, _-_, _≤_, _<_}
 use mathlib.Core.Path.{_≡_, refl, sym, _∙_, ap, subst}
 use mathlib.Core.Logic.{_≢_}
 use mathlib.Core.Bool.{Bool, true, false, cond}
-use mathlib.Core.List.{List, _++_}
+use mathlib.Core.List.{List, _++_, append-assoc}
 use native.Mathlib.Omega.{arith}
 use borrow.Author.Tests.{lt-ltb, le-ltb}
 use lib.Dec.{ltb}
 use lib.ListN.{length, take, drop}
-use lib.Seq.{length-take-le}
+use lib.Seq.{length-take-le, take-at}
 use lib.Ieee.{Float}
-use Rattle.algebra.proofs.Equal.{ltb-false}
 use Rattle.rules.specs.Limits.{mostPoints, mostCoordinates, mostIndices}
 use Rattle.rules.specs.Plane.{Pt}
 use Rattle.rules.specs.Grid.{pointsOf}
 use Rattle.rules.specs.Layout.{flatten, over}
 use Rattle.rules.specs.Refusals.{firstRefusal, offGrid, cutterChecks}
-use Rattle.rules.specs.Entries.{cutter, trianglesFor}
-use Rattle.rules.specs.Text.{InForm, NotInForm}
-use Rattle.rules.specs.Lines.{Answers, Reading, coordinates, offCorners, readerChecks, reader, Reads, fillRoom, fillChecks}
-use Rattle.rules.specs.Lines as Lines
-use Rattle.rules.proofs.Layouts.{take-over}
-use Rattle.rules.proofs.Rows.{passes}
-use Rattle.rules.proofs.Answers.{cutter-number, cutter-indices}
-use Rattle.rules.proofs.LineAnswers.{reader-number, reader-answered}
-use Rattle.rules.proofs.Results.{cut-result}
-use Rattle.rules.proofs.FillRows.{Sound, sound, StandFor, same-refusal, reader-refuses, filled}
+use Rattle.rules.specs.Entries.{Cutting, cutter, trianglesFor}
+use Rattle.rules.specs.Lines.{coordinates, offCorners, Reads, fillRoom, fillChecks}
+use Rattle.rules.proofs.Answers.{cutter-number, cutter-answered, three-each}
+use Rattle.rules.proofs.Results.{written-count}
+use Rattle.rules.proofs.FillRows.{StandFor, same-refusal, too-many, filled}
 use Rattle.entries.specs.declared.Answer.{Answer}
 use Rattle.ear_clipping.specs.Promise.{Promise}
 use Rattle.wkt.specs.Promise.{readingOf}
 use Rattle.wkt.proofs.Corners.{coordinates-length, off-grid-read, points-read}
+use Rattle.wkt.proofs.Outcomes.{Outcome, eleven, three, six, zero, outcome}
 use Rattle.fill_line.specs.CutLine.{lentFor, CutInto, CutLine, not-in-form, in-form}
 
 -- ---- what was read
@@ -39,58 +34,117 @@ stands corners = record { pairs = coordinates-length corners; off-grid = off-gri
 
 -- the room for indices says what the room for the text does
 short-alike : (n room : ℕ) → 3 ≤ n → n ≤ mostPoints → ltb (lentFor n room) (3 * (n - 2)) ≡ ltb room (fillRoom n)
-short-alike n room three most = go (ltb room (fillRoom n))
+short-alike n room least most = go (ltb room (fillRoom n))
   where
     go : (t : Bool) → ltb (cond t 0 mostIndices) (3 * (n - 2)) ≡ t
     go true = lt-ltb 0 (3 * (n - 2)) (omega arith)
     go false = le-ltb mostIndices (3 * (n - 2)) (omega arith)
 
--- the cutter's number is the line's
-pub cut-number : (corners : List Pt) (room : ℕ) → firstRefusal (cutterChecks (coordinates corners) (lentFor (length corners) room)) ≡ firstRefusal (fillChecks corners room)
-cut-number corners room = same-refusal (coordinates corners) corners room (lentFor (length corners) room) (stands corners) (λ s. short-alike (length corners) room (s .three) (s .at-most))
+pub lent-most : (n room : ℕ) → lentFor n room ≤ mostIndices
+lent-most n room = go (ltb room (fillRoom n))
+  where
+    go : (t : Bool) → cond t 0 mostIndices ≤ mostIndices
+    go true = omega arith
+    go false = omega arith
 
--- the reader's number, and what it leaves of an accepted line
-module _ (corners : List Pt) (coords : List Float) (r : Answer) (after : List Float) (size : length coords ≡ mostCoordinates) (e : readingOf r after ≡ reader coords corners) where
-  read-number : r .number ≡ firstRefusal (readerChecks corners (length coords))
-  read-number = ap (λ (w : Reading). w .number) e ∙ reader-number coords corners
+-- how many are lent, as the code finds it
+pub lent-none : {needed : ℕ} (n room : ℕ) → needed ≡ fillRoom n → room < needed → 0 ≡ lentFor n room
+lent-none n room e h = ap (λ (t : Bool). cond t 0 mostIndices) (sym (lt-ltb room (fillRoom n) (omega arith)))
 
-  module _ (ok : r .number ≡ 0) where
-    few : length corners ≤ mostPoints
-    unfolding readerChecks
-    few = ltb-false mostPoints (length corners) (passes (ltb mostPoints (length corners)) 2 _ (sym read-number ∙ ok) .0)
+pub lent-all : {needed : ℕ} (n room : ℕ) → needed ≡ fillRoom n → needed ≤ room → mostIndices ≡ lentFor n room
+lent-all n room e h = ap (λ (t : Bool). cond t 0 mostIndices) (sym (le-ltb room (fillRoom n) (omega arith)))
 
-    read : readingOf r after ≡ record { number = 0; count = length corners; coords = over (coordinates corners) coords }
-    read = e ∙ reader-answered coords corners few (omega (arith, few))
+front-of : (l old rest : List ℕ) (m : ℕ) → m ≡ length l → take m (over l old ++ rest) ≡ l
+front-of l old rest m e = ap (take m) (append-assoc l (drop (length l) old) rest) ∙ take-at l (drop (length l) old ++ rest) m (sym e)
 
-    read-count : r .count ≡ length corners
-    read-count = ap (λ (w : Reading). w .count) read
+-- what the cutter gives for the coordinates of corners
+module _ (corners : List Pt) (room k : ℕ) (lent out : List ℕ) (s : Answer) (is-k : k ≡ lentFor (length corners) room) (size : length lent ≡ mostIndices)
+    (p : Promise (coordinates corners) (take k lent) s out) where
+  abbrev cs : List Float
+  cs = coordinates corners
 
-    read-coords : take (2 * length corners) after ≡ coordinates corners
-    read-coords =
-        ap (λ (w : Reading). take (2 * length corners) (w .coords)) read
-        ∙ subst (λ (k : ℕ). take k (over (coordinates corners) coords) ≡ coordinates corners) (coordinates-length corners) (take-over (coordinates corners) coords)
+  lent-size : length (take k lent) ≡ lentFor (length corners) room
+  lent-size = length-take-le k lent (omega (arith, is-k, lent-most (length corners) room)) ∙ is-k
+
+  -- its number is the line's
+  cut-number : s .number ≡ firstRefusal (fillChecks corners room)
+  cut-number =
+      p .number
+      ∙ cutter-number cs (take k lent)
+      ∙ ap (λ (j : ℕ). firstRefusal (cutterChecks cs j)) lent-size
+      ∙ same-refusal cs corners room (lentFor (length corners) room) (stands corners) (λ h. short-alike (length corners) room (h .three) (h .at-most))
+
+  module _ (ok : s .number ≡ 0) where
+    accepted : cutter cs (take k lent) .number ≡ 0
+    accepted = sym (p .number) ∙ ok
+
+    off : offCorners corners ≡ false
+    off = filled corners room (sym cut-number ∙ ok) .on-grid
+
+    triangles-of : trianglesFor (pointsOf cs) ≡ trianglesFor corners
+    triangles-of = ap trianglesFor (points-read corners off)
+
+    count-is : s .count ≡ length (trianglesFor (pointsOf cs))
+    count-is = p .count ∙ ap (λ (r : Cutting). r .count) (cutter-answered cs (take k lent) accepted)
+
+    counted : length corners ≡ s .count + 2
+    counted =
+        let n = p .count ∙ written-count cs (take k lent) accepted ∙ ap (λ (l : List Pt). length l - 2) (points-read corners off) in
+        let three = filled corners room (sym cut-number ∙ ok) .outline .three in
+        omega arith
+
+    written : out ≡ over (flatten (trianglesFor (pointsOf cs))) (take k lent)
+    written = p .indices ∙ ap (λ (r : Cutting). r .indices) (cutter-answered cs (take k lent) accepted)
+
+    -- and it leaves its triangles
+    cut-into : (after : List Float) (rest : List ℕ) → take (2 * length corners) after ≡ cs → CutInto corners (s .count) after (out ++ rest)
+    cut-into after rest e =
+        let n : 2 * s .count + 4 ≡ 2 * length corners = omega (arith, counted) in
+        let front : take (2 * s .count + 4) after ≡ cs = ap (λ (j : ℕ). take j after) n ∙ e in
+        let many : 3 * s .count ≡ length (flatten (trianglesFor (pointsOf cs))) = ap (λ (j : ℕ). 3 * j) count-is ∙ sym (three-each cs (take k lent)) in
+        record {
+          counted = counted;
+          points = ap pointsOf front ∙ points-read corners off;
+          on-grid = ap offGrid front ∙ off-grid-read corners ∙ off;
+          triangles = ap (λ (l : List ℕ). take (3 * s .count) (l ++ rest)) written ∙ front-of (flatten (trianglesFor (pointsOf cs))) (take k lent) rest (3 * s .count) many ∙ ap flatten triangles-of;
+        }
 
 -- ---- refused by the reader
 
 module _ (line : List ℕ) (room : ℕ) (coords after : List Float) (r : Answer) (size : length coords ≡ mostCoordinates) (reads : Reads line coords (readingOf r after)) where
   pub not-read : (indices : List ℕ) → r .number ≢ 0 → CutLine line room (record { number = r .number; count = 0 }) after indices
-  not-read indices d = go reads
+  not-read indices d = go (outcome reads)
     where
-      go : Reads line coords (readingOf r after) → CutLine line room (record { number = r .number; count = 0 }) after indices
-      go (Lines.not-in-form h e) = not-in-form h (ap (λ (w : Reading). w .number) e)
-      go (Lines.in-form {corners = corners} form e) =
-          let n = read-number corners coords r after size e in
-          in-form form (n ∙ reader-refuses corners (length coords) room (omega arith) (λ z. d (n ∙ z))) (λ z. absurd (d z))
+      go : Outcome line (length coords) (readingOf r after) → CutLine line room (record { number = r .number; count = 0 }) after indices
+      go (eleven h e) = not-in-form h e
+      go (three {corners = corners} form many e) = in-form form (e ∙ sym (too-many corners room many)) (λ z. absurd (d z))
+      go (six form few short e) = absurd (omega arith)
+      go (zero form few e n cs) = absurd (d e)
 
   -- ---- answered by the cutter
 
   module _ (ok : r .number ≡ 0) where
-    eleven-not : NotInForm line → readingOf r after ≡ record { number = 11; count = 0; coords = coords } → ⊥
-    eleven-not h e = omega (arith, ap (λ (w : Reading). w .number) e)
-
     pub read-few : r .count ≤ mostPoints
-    read-few = go reads
+    read-few = go (outcome reads)
       where
-        go : Reads line coords (readingOf r after) → r .count ≤ mostPoints
-        go (Lines.not-in-form h e) = absurd (eleven-not h e)
-        go (Lines.in-form {corners = corners} form e) = omega (arith, read-count corners coords r after size e ok, few corners coords r after size e ok)
+        go : Outcome line (length coords) (readingOf r after) → r .count ≤ mostPoints
+        go (eleven h e) = absurd (omega arith)
+        go (three form many e) = absurd (omega arith)
+        go (six form few short e) = absurd (omega arith)
+        go (zero form few e n cs) = omega arith
+
+    pub read-cut :
+        (n k : ℕ) (lent out : List ℕ) (s : Answer) → n ≡ r .count → k ≡ lentFor n room → length lent ≡ mostIndices → Promise (take (2 * n) after) (take k lent) s out
+        → CutLine line room s after (out ++ drop k lent)
+    read-cut n k lent out s en ek size-lent p = go (outcome reads)
+      where
+        go : Outcome line (length coords) (readingOf r after) → CutLine line room s after (out ++ drop k lent)
+        go (eleven h e) = absurd (omega arith)
+        go (three form many e) = absurd (omega arith)
+        go (six form few short e) = absurd (omega arith)
+        go (zero {corners = corners} form few e c cs) =
+            let same : n ≡ length corners = en ∙ c in
+            let is-cs : take (2 * n) after ≡ coordinates corners = ap (λ (j : ℕ). take (2 * j) after) same ∙ cs in
+            let is-k : k ≡ lentFor (length corners) room = ek ∙ ap (λ (j : ℕ). lentFor j room) same in
+            let q : Promise (coordinates corners) (take k lent) s out = subst (λ (l : List Float). Promise l (take k lent) s out) is-cs p in
+            in-form form (cut-number corners room k lent out s is-k size-lent q) (λ z. cut-into corners room k lent out s is-k size-lent q z after (drop k lent) cs)

@@ -11,14 +11,14 @@ use borrow.Author.Tests.{lt-ltb, le-ltb}
 use lib.Dec.{eqb, ltb, lit<}
 use lib.ListN.{length}
 use lib.Ieee.{Float}
-use Rattle.algebra.proofs.Equal.{ltb-false, ltb-is-true}
-use Rattle.rules.specs.Limits.{mostPoints, mostCoordinates}
+use Rattle.algebra.proofs.Equal.{ltb-false}
+use Rattle.rules.specs.Limits.{mostPoints}
 use Rattle.rules.specs.Plane.{Pt}
 use Rattle.rules.specs.Grid.{pointsOf}
 use Rattle.rules.specs.Cut.{cut}
 use Rattle.rules.specs.Refusals.{Row, _gives_, firstRefusal, offGrid, equalNeighbours, noEar, shortToCut, countChecks, outlineChecks, ringChecks, beforeCutting, cutterChecks}
-use Rattle.rules.specs.Lines.{offCorners, readerChecks, fillRoom, beforeRing, fillChecks}
-use Rattle.rules.proofs.Rows.{row-on, row-off, no-rows, passes, Front, front-gives, front-none, others-decide}
+use Rattle.rules.specs.Lines.{offCorners, fillRoom, beforeRing, fillChecks}
+use Rattle.rules.proofs.Rows.{row-on, row-off, passes, Front, front-gives, front-none, others-decide}
 use Rattle.rules.proofs.Outlines.{counted}
 use Rattle.rules.proofs.Accepted.{Accepted, no-equals→apart, not-stuck}
 use Rattle.rules.proofs.Fronts.{cutter-front, seven-front}
@@ -130,21 +130,10 @@ module _ (cs : List Float) (corners : List Pt) (room k : ℕ) (s : StandFor cs c
           let a = front-gives (cutter-front cs k) {n = first} same-first d in
           sym (front-gives (seven-front cs k) {n = first} a d) ∙ front-gives (corners-front corners room) {n = first} refl d
 
--- ---- the reader's
+-- ---- too many corners
 
-too-many : (corners : List Pt) (room : ℕ) → mostPoints < length corners → firstRefusal (fillChecks corners room) ≡ 3
+pub too-many : (corners : List Pt) (room : ℕ) → mostPoints < length corners → firstRefusal (fillChecks corners room) ≡ 3
 unfolding fillChecks beforeRing countChecks
 too-many corners room h =
     let halves : 2 * length corners / 2 ≡ length corners = mul-div-cancel-left (length corners) (lit< tt) in
     row-off 1 _ (even (length corners)) ∙ row-off 2 _ (rw halves (le-ltb (length corners) 3 (omega arith))) ∙ row-on 3 _ (rw halves (lt-ltb mostPoints (length corners) h))
-
--- with room for the most corners, what the reader refuses is refused by the same number
-pub reader-refuses : (corners : List Pt) (room more : ℕ) → mostCoordinates ≤ room → firstRefusal (readerChecks corners room) ≢ 0 → firstRefusal (readerChecks corners room) ≡ firstRefusal (fillChecks corners more)
-unfolding readerChecks
-reader-refuses corners room more h d = go (ltb mostPoints (length corners)) refl
-  where
-    go : (t : Bool) → ltb mostPoints (length corners) ≡ t → firstRefusal (ltb mostPoints (length corners) gives 3 ∷ ltb room (2 * length corners) gives 6 ∷ []) ≡ firstRefusal (fillChecks corners more)
-    go true e = row-on 3 _ e ∙ sym (too-many corners more (ltb-is-true mostPoints (length corners) e))
-    go false e =
-        let few = ltb-false mostPoints (length corners) e in
-        absurd (d (row-off 3 _ e ∙ row-off 6 _ (le-ltb room (2 * length corners) (omega arith)) ∙ no-rows))

@@ -1,7 +1,7 @@
 -- What comes back of a line: one result at most; and what the reader gives back, by its refusals.
 use Prim.Native.Nat.{ℕ, _*_, _≤_, _<_}
 use native.Mathlib.Omega.{arith}
-use mathlib.Core.Path.{_≡_, refl, sym, ap, _∙_}
+use mathlib.Core.Path.{_≡_, sym, ap, _∙_}
 use mathlib.Core.Logic.{_≢_}
 use mathlib.Core.List.{List}
 use lib.ListN.{length}
@@ -12,9 +12,9 @@ use Rattle.rules.specs.Plane.{Pt}
 use Rattle.rules.specs.Layout.{over}
 use Rattle.rules.specs.Refusals.{firstRefusal}
 use Rattle.rules.specs.Text.{InForm, NotInForm}
-use Rattle.rules.specs.Lines.{Answers, in-form, not-in-form, Reading, coordinates, readerChecks, reader}
+use Rattle.rules.specs.Lines.{Answers, in-form, not-in-form, coordinates, readerChecks, reader}
 use Rattle.rules.proofs.Rows.{row-on, row-off, no-rows}
-use Rattle.rules.proofs.Answers.{unless-number, unless-answered, unless-refused}
+use Rattle.rules.proofs.Answers.{unless-answered, unless-refused}
 use Rattle.rules.proofs.TextLines.{in-form-one}
 
 module _ {R : Type 0} {line : List ℕ} {eleven : R} {answer : List Pt → R} {r : R} where
@@ -37,10 +37,6 @@ answers-one a (not-in-form h e) = eleven-of a h ∙ sym e
 -- ---- the reader
 
 module _ (coords : List Float) (corners : List Pt) where
-  pub reader-number : reader coords corners .number ≡ firstRefusal (readerChecks corners (length coords))
-  unfolding reader
-  reader-number = unless-number (λ (r : Reading). r .number) _ _ (λ n. refl) refl (firstRefusal (readerChecks corners (length coords)))
-
   refused : (n : ℕ) → firstRefusal (readerChecks corners (length coords)) ≡ n → n ≢ 0 → reader coords corners ≡ record { number = n; count = 0; coords = coords }
   unfolding reader
   refused n e d = unless-refused _ _ (λ z. d (sym e ∙ z)) ∙ ap (λ m. record { number = m; count = 0; coords = coords }) e

@@ -19,7 +19,7 @@ use Rattle.wkt.proofs.Corners.{coordinates-length}
 pub data Outcome (line : List ℕ) (room : ℕ) (r : Reading) : Type 0 where
   eleven : NotInForm line → r .number ≡ 11 → Outcome line room r
   three : {corners : List Pt} → InForm line corners → mostPoints < length corners → r .number ≡ 3 → Outcome line room r
-  six : {corners : List Pt} → InForm line corners → room < 2 * length corners → r .number ≡ 6 → Outcome line room r
+  six : {corners : List Pt} → InForm line corners → length corners ≤ mostPoints → room < 2 * length corners → r .number ≡ 6 → Outcome line room r
   zero : {corners : List Pt} → InForm line corners → length corners ≤ mostPoints → r .number ≡ 0 → r .count ≡ length corners → take (2 * length corners) (r .coords) ≡ coordinates corners
       → Outcome line room r
 
@@ -34,7 +34,8 @@ outcome {line = line} {coords = coords} {r = r} (in-form {corners = corners} f e
     go true h t k = let p = ltb-true mostPoints (length corners) h in three f p (number (e ∙ reader-three coords corners p))
     go false h true k =
         let p = ltb-true (length coords) (2 * length corners) k in
-        six f p (number (e ∙ reader-six coords corners (ltb-false mostPoints (length corners) h) p))
+        let few = ltb-false mostPoints (length corners) h in
+        six f few p (number (e ∙ reader-six coords corners few p))
     go false h false k =
         let few = ltb-false mostPoints (length corners) h in
         let is = e ∙ reader-answered coords corners few (ltb-false (length coords) (2 * length corners) k) in

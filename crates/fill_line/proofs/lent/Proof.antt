@@ -1,21 +1,16 @@
 use borrow.Author.Needs.{needs}
+use Rattle.fill_line.proofs.Cutting.{lent-none, lent-all}
 use Rattle.fill_line.proofs.lent.Statement.{statement}
 use Rattle.fill_line.proofs.lent.Tie as tie
-use Rattle.fill_line.proofs.lent.Reads as reads
-use Rattle.fill_line.proofs.lent.Lts as lts
-use Rattle.fill_line.proofs.fill_room.Reads as fill-room-reads
 
--- src/lib.rt:50:15
 fill-room-requires : tie.Need-fill-room-requires
 fill-room-requires c κs = search needs
 
--- src/lib.rt:46:1
 returns : tie.Need-returns
-returns c = ?
+returns c = lent-none (c .before .before .args .n) (c .before .before .args .room) (c .before .fill-room .ensures) (c .if1 .taken)
 
--- src/lib.rt:46:1
 returns-2 : tie.Need-returns-2
-returns-2 c = ?
+returns-2 c = lent-all (c .before .before .args .n) (c .before .before .args .room) (c .before .fill-room .ensures) (c .if1 .left)
 
 pub lent-spec : {M : Type 1} → statement M
 lent-spec = tie.close (tie.spec fill-room-requires returns returns-2)

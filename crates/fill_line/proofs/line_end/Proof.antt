@@ -1,41 +1,37 @@
+-- `line_end` meets its contract. The loop's invariant: no newline stands among the bytes that were passed.
+use Prim.Native.Nat.{_-_}
+use native.Mathlib.Omega.{arith}
+use lib.ListN.{length}
+use Rattle.fill_line.proofs.FirstLine.{Passed, passed-none, passed-more, at-newline, at-end}
 use Rattle.fill_line.proofs.line_end.Statement.{statement}
 use Rattle.fill_line.proofs.line_end.Tie as tie
-use Rattle.fill_line.proofs.line_end.Reads as reads
-use Rattle.fill_line.proofs.line_end.Lts as lts
 
 abbrev Inv-loop : tie.InvT-loop
-Inv-loop bytes i₀ i = ?
+Inv-loop bytes i₀ i = Passed bytes i
 
 abbrev μ-loop : tie.MeasureT-loop
-μ-loop bytes i₀ i = ?
+μ-loop bytes i₀ i = length bytes - i
 
--- src/lib.rt:28:5
 loop-holds : tie.Need-loop-holds Inv-loop μ-loop
-loop-holds c = ?
+loop-holds c = passed-none (c .args .bytes .now)
 
--- src/lib.rt:29:12
 shared-slice-read-if1 : tie.Need-shared-slice-read-if1 Inv-loop μ-loop
-shared-slice-read-if1 c = ?
+shared-slice-read-if1 c = c .before .loop-test .taken
 
--- src/lib.rt:30:13
 returns : tie.Need-returns Inv-loop μ-loop
-returns c = ?
+returns c = (at-newline _ _ (c .before .before .before .loop .inv) (c .before .before .loop-test .taken) (c .if1 .taken), c .before .before .before .loop .inv .within)
 
--- src/lib.rt:32:9
 add-i : tie.Need-add-i Inv-loop μ-loop
-add-i c = ?
+add-i c = omega (arith, c .before .before .loop-test .taken)
 
--- src/lib.rt:28:5
 loop-less : tie.Need-loop-less Inv-loop μ-loop
-loop-less c = ?
+loop-less c = omega (arith, c .before .before .loop-test .taken)
 
--- src/lib.rt:28:5
 loop-again : tie.Need-loop-again Inv-loop μ-loop
-loop-again c = ?
+loop-again c = passed-more _ _ (c .before .before .before .loop .inv) (c .before .before .loop-test .taken) (c .if1 .left)
 
--- src/lib.rt:23:1
 returns-2 : tie.Need-returns-2 Inv-loop μ-loop
-returns-2 c = ?
+returns-2 c = (at-end _ _ (c .before .loop .inv) (c .loop-test .left), c .before .loop .inv .within)
 
 pub line-end-spec : {M : Type 1} → statement M
 line-end-spec =
