@@ -29,7 +29,7 @@ module _ (ps : List Pt) (lengths indices : List ℕ) where
 
   -- and the parenthesis
   abbrev pub further : ℕ → ℕ → List ℕ
-  further i from = areas i from ++ (41 ∷ [])
+  further i from = areas i from ++ bytes ")"
 
   -- one area, of those whose corner numbers are there
   pub record Here (i from n : ℕ) : Type 0 where
@@ -44,19 +44,19 @@ module _ (ps : List Pt) (lengths indices : List ℕ) where
     others = omega (arith, sum-next lengths i h);
   }
 
-  areas-next : (i from n : ℕ) → i < length lengths → n ≡ getD lengths i 0 → areas i from ≡ (44 ∷ 32 ∷ area ps indices from n) ++ areas (i + 1) (from + n)
+  areas-next : (i from n : ℕ) → i < length lengths → n ≡ getD lengths i 0 → areas i from ≡ (bytes ", " ++ area ps indices from n) ++ areas (i + 1) (from + n)
   unfolding behind split
   areas-next i from n h e = rw (drop-cons lengths i 0 h, add-one i, e, drop-drop)
 
   module _ {old new text : List ℕ} {at end : ℕ} (i from : ℕ) (p : Partly old new at end text (further i from)) where
     -- the next area is left
-    pub area-left : i < length lengths → (n : ℕ) → n ≡ getD lengths i 0 → Partly old new at end text ((44 ∷ 32 ∷ []) ++ (area ps indices from n ++ further (i + 1) (from + n)))
-    area-left h n e = partly-as (ap (λ (l : List ℕ). l ++ (41 ∷ [])) (areas-next i from n h e) ∙ append-assoc (44 ∷ 32 ∷ area ps indices from n) (areas (i + 1) (from + n)) (41 ∷ [])) p
+    pub area-left : i < length lengths → (n : ℕ) → n ≡ getD lengths i 0 → Partly old new at end text (bytes ", " ++ (area ps indices from n ++ further (i + 1) (from + n)))
+    area-left h n e = partly-as (ap (λ (l : List ℕ). l ++ bytes ")") (areas-next i from n h e) ∙ append-assoc (bytes ", " ++ area ps indices from n) (areas (i + 1) (from + n)) (bytes ")")) p
 
     -- none is left
-    pub none-left : length lengths ≤ i → Partly old new at end text (41 ∷ [])
+    pub none-left : length lengths ≤ i → Partly old new at end text (bytes ")")
     unfolding behind split
-    none-left h = partly-as (ap (λ (l : List ℕ). behind (map areaText (map (points ps) (split l (drop from indices)))) ++ (41 ∷ [])) (drop-of-length-le lengths h)) p
+    none-left h = partly-as (ap (λ (l : List ℕ). behind (map areaText (map (points ps) (split l (drop from indices)))) ++ bytes ")") (drop-of-length-le lengths h)) p
 
 -- ---- the whole line
 
@@ -65,7 +65,7 @@ line-text : (ps : List Pt) (lengths indices : List ℕ) (n : ℕ) → 0 < length
 unfolding multipolygonLine parted split
 line-text ps [] indices n h e = absurd (omega arith)
 line-text ps (k ∷ lengths) indices n h e =
-    rw e (ap (λ (l : List ℕ). bytes "MULTIPOLYGON (" ++ l) (append-assoc (area ps indices 0 k) (areas ps (k ∷ lengths) indices 1 k) (41 ∷ [])))
+    rw e (ap (λ (l : List ℕ). bytes "MULTIPOLYGON (" ++ l) (append-assoc (area ps indices 0 k) (areas ps (k ∷ lengths) indices 1 k) (bytes ")")))
 
 pub line-first :
     {out : List ℕ} (ps : List Pt) (lengths indices : List ℕ) (n : ℕ) → 0 < length lengths → n ≡ getD lengths 0 0 → Room out 0 (line ps lengths indices)

@@ -1,5 +1,5 @@
 -- What the writer of a POLYGON line gives back, by its refusal and by what was written; and that two results which the promise allows are equal.
-use Prim.Native.Nat.{ℕ, _+_, _/_, _≤_, _<_}
+use Prim.Native.Nat.{ℕ, _+_, _/_, _^_, _≤_, _<_}
 use native.Mathlib.Omega.{arith}
 use mathlib.Core.Path.{_≡_, sym, _∙_, ap}
 use mathlib.Core.Logic.{_≢_}
@@ -62,7 +62,7 @@ module _ (cs : List Float) (out : List ℕ) where
     line-room = record { fits = omega (arith, enough, short) }
 
     module _ {after : List ℕ} {end : ℕ} (w : Wrote out after 0 end (polygonLine ps)) where
-      pub counted : end < 4294967296
+      pub counted : end < 2 ^ 32
       counted = omega (arith, wrote-over w .1, short, accepted .at-most)
 
       pub answered : Promise cs out (record { number = 0; count = end }) after

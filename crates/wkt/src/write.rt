@@ -1,4 +1,4 @@
-// Writing points, rings, areas and lines as text into a lent slice. Each function but the entry answers where its text ends.
+// Writing points, rings, areas and lines as text into a lent slice. Each `write_` function but `write_polygon` answers where its text ends.
 use decimals::write::write_byte;
 use decimals::write::write_number;
 use decimals::write::write_word;
@@ -9,7 +9,7 @@ use grid::outline::outline_refusal;
 use grid::point::Point;
 ghost use mathlib.Core.Path.{_≡_};
 ghost use mathlib.Core.Bool.{true};
-ghost use mathlib.Core.List.{[], _∷_, map};
+ghost use mathlib.Core.List.{_++_, map};
 ghost use Prim.Native.Nat.{_+_, _≤_, _<_};
 ghost use lib.ListN.{length, take, drop, getD};
 ghost use Rattle.algebra.specs.Lists.{Each, countFrom, sum};
@@ -19,7 +19,7 @@ ghost use Rattle.rules.specs.Plane as Rules;
 ghost use Rattle.rules.specs.Measure.{points};
 ghost use Rattle.rules.specs.Layout.{split};
 ghost use Rattle.rules.specs.Refusals.{firstRefusal};
-ghost use Rattle.rules.specs.Text.{pointText, ringText, areaText, polygonLine, multipolygonLine};
+ghost use Rattle.rules.specs.Text.{bytes, pointText, ringText, areaText, polygonLine, multipolygonLine};
 ghost use Rattle.rules.specs.Lines.{polygonChecks};
 ghost use Rattle.grid.specs.Points.{onGridPt, ptOf, Known};
 ghost use Rattle.decimals.specs.Writes.{Room, Wrote};
@@ -37,16 +37,16 @@ fn write_point(p: Point, out: &mut [u8], at: usize) -> usize
 
 // What stands between two points, and between two areas.
 fn write_comma(out: &mut [u8], at: usize) -> usize
-    requires { ⌜ Room (now out) at (44 ∷ 32 ∷ []) ⌝ }
-    ensures { λ r. ⌜ Wrote (now (out .entry)) (now (out .exit)) at r (44 ∷ 32 ∷ []) ⌝ }
+    requires { ⌜ Room (now out) at (bytes ", ") ⌝ }
+    ensures { λ r. ⌜ Wrote (now (out .entry)) (now (out .exit)) at r (bytes ", ") ⌝ }
 {
     write_word(b", ", out, at)
 }
 
 fn write_next(p: Point, out: &mut [u8], at: usize) -> usize
     requires { ⌜ onGridPt p ≡ true ⌝ }
-    requires { ⌜ Room (now out) at (44 ∷ 32 ∷ pointText (ptOf p)) ⌝ }
-    ensures { λ r. ⌜ Wrote (now (out .entry)) (now (out .exit)) at r (44 ∷ 32 ∷ pointText (ptOf p)) ⌝ }
+    requires { ⌜ Room (now out) at (bytes ", " ++ pointText (ptOf p)) ⌝ }
+    ensures { λ r. ⌜ Wrote (now (out .entry)) (now (out .exit)) at r (bytes ", " ++ pointText (ptOf p)) ⌝ }
 {
     let start = write_comma(out, at);
     write_point(p, out, start)

@@ -1,9 +1,9 @@
 -- `write_area` meets its contract: a ring in parentheses.
-use mathlib.Core.List.{[], _∷_, _++_}
+use mathlib.Core.List.{_++_}
 use borrow.Author.Needs.{needs}
 use Rattle.rules.specs.Grid.{pointsOf}
 use Rattle.rules.specs.Measure.{points}
-use Rattle.rules.specs.Text.{ringText, areaText}
+use Rattle.rules.specs.Text.{bytes, ringText, areaText}
 use Rattle.decimals.proofs.Texts.{Partly, partly-byte, partly-fits, partly-more, partly-end}
 use Rattle.wkt.proofs.Rings.{area-first}
 use Rattle.wkt.proofs.write.write_area.Statement.{statement}
@@ -28,7 +28,7 @@ closed c = c .before .before
 -- the ring and the parenthesis behind it
 ring-left :
     (c : tie.After-write-byte) → let s = start (c .before) in let corners = points (pointsOf (s .args .coords .now)) (s .args .ring .now) in
-    Partly (s .args .out .now) (c .write-byte .last .0) (s .args .at) (c .write-byte .result) (areaText corners) (ringText corners ++ (41 ∷ []))
+    Partly (s .args .out .now) (c .write-byte .last .0) (s .args .at) (c .write-byte .result) (areaText corners) (ringText corners ++ bytes ")")
 ring-left c = partly-more _ _ (area-first _ (start (c .before) .pre .1 .1)) (c .write-byte .ensures)
 
 write-byte-requires : tie.Need-write-byte-requires

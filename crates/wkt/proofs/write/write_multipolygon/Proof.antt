@@ -3,12 +3,13 @@
 use Prim.Native.Nat.{ℕ, _+_, _-_, _≤_}
 use native.Mathlib.Omega.{arith}
 use mathlib.Core.Path.{refl}
-use mathlib.Core.List.{List, [], _∷_, _++_}
+use mathlib.Core.List.{List, _++_}
 use lib.ListN.{length, drop}
 use borrow.Author.Needs.{needs}
 use Rattle.algebra.specs.Lists.{sum}
 use Rattle.rules.specs.Plane.{Pt}
 use Rattle.rules.specs.Grid.{pointsOf}
+use Rattle.rules.specs.Text.{bytes}
 use Rattle.decimals.proofs.Texts.{Partly, partly-none, partly-byte, partly-fits, partly-more, partly-room, partly-end, partly-then, wrote-length}
 use Rattle.wkt.proofs.Areas.{line, area, further, Here, here, area-left, none-left, line-first}
 use Rattle.wkt.proofs.write.write_multipolygon.Statement.{statement}
@@ -110,7 +111,7 @@ others-left c = partly-more _ _ (word-left (c .before .before)) (c .write-part .
 next-left :
     (c : tie.After-wide2 Inv-loop μ-loop) → let l = at-loop c in let s = loop-entry l in let f = first-written l in let n = c .wide2 .result in
     Partly (f .write-part .last .1 .1 .1 .1 .0) (l .loop .out) (f .write-part .result) (l .loop .end) (others s 1 (first-sized l .wide .result))
-    ((44 ∷ 32 ∷ []) ++ (next-area c ++ others s (l .loop .k + 1) (l .loop .from + n)))
+    (bytes ", " ++ (next-area c ++ others s (l .loop .k + 1) (l .loop .from + n)))
 next-left c =
     let l = at-loop c in
     let s = loop-entry l in
@@ -124,7 +125,7 @@ comma-left c = partly-more _ _ (next-left (sized c)) (c .write-comma .ensures)
 
 close-left :
     (c : tie.After-loop Inv-loop μ-loop) → let l = c .before in let s = loop-entry l in
-    Partly (s .args .out .now) (l .loop .out) 0 (l .loop .end) (whole s) (41 ∷ [])
+    Partly (s .args .out .now) (l .loop .out) 0 (l .loop .end) (whole s) (bytes ")")
 close-left c =
     let l = c .before in
     let s = loop-entry l in

@@ -2,12 +2,12 @@
 use Prim.Native.Nat.{ℕ, _+_, _-_}
 use native.Mathlib.Omega.{arith}
 use mathlib.Core.Path.{refl}
-use mathlib.Core.List.{List, _∷_, _++_}
+use mathlib.Core.List.{List, _++_}
 use lib.ListN.{length}
 use Rattle.rules.specs.Plane.{Pt}
 use Rattle.rules.specs.Grid.{pointsOf}
 use Rattle.rules.specs.Measure.{points}
-use Rattle.rules.specs.Text.{pointText, ringText}
+use Rattle.rules.specs.Text.{bytes, pointText, ringText}
 use Rattle.grid.specs.Points.{ptOf}
 use Rattle.decimals.proofs.Texts.{Partly, partly-none, partly-byte, partly-fits, partly-more, partly-room, partly-end, partly-then, wrote-length}
 use Rattle.wkt.proofs.Rings.{further, closing, corner-left, first-left, ring-first}
@@ -80,7 +80,7 @@ others-left c = partly-more _ _ (opened-left (first c)) (c .write-point .ensures
 next-left :
     (c : tie.After-corner2 Inv-loop μ-loop) → let l = c .before .before in let s = loop-entry l in let f = first-written l in let q = ptOf (first f .corner .result) in
     Partly (f .write-point .last .1 .0) (l .loop .out) (f .write-point .result) (l .loop .end) (further (ps s) (ring s) 1 q)
-    ((44 ∷ 32 ∷ pointText (ptOf (c .corner2 .result))) ++ further (ps s) (ring s) (l .loop .i + 1) q)
+    ((bytes ", " ++ pointText (ptOf (c .corner2 .result))) ++ further (ps s) (ring s) (l .loop .i + 1) q)
 next-left c = let s = loop-entry (c .before .before) in corner-left (ps s) (ring s) _ _ (c .before .before .loop .inv) (c .before .loop-test .taken) _ (c .corner2 .ensures .1)
 
 last-left :
