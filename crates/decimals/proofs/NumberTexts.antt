@@ -9,7 +9,7 @@ use lib.Signed.{ltZ}
 use lib.Ieee.{Float, binary32, ofBits, lt}
 use borrow.Author.Tests.{ltb-true}
 use Rattle.rules.specs.Grid.{wholeOf, onGrid}
-use Rattle.rules.specs.Text.{natural, decimal}
+use Rattle.rules.specs.Text.{bytes, natural, decimal}
 use Rattle.rules.proofs.TextNumbers.{natural-split}
 use Rattle.decimals.specs.Writes.{Room}
 use Rattle.decimals.proofs.Floats.{below-test}
@@ -28,7 +28,7 @@ number-text (pos k) n e = (λ t. absurd (omega (arith, ltb-true k 0 t)), λ t. a
 number-text (negsuc k) n e = (λ t. ap (λ (m : ℕ). 45 ∷ natural m) (sym e), λ t. absurd (false≢true (sym t)))
 
 module _ {out : List ℕ} {at : ℕ} (x : Float) (g : onGrid x ≡ true) (room : Room out at (decimal (wholeOf x))) (n : ℕ) (is : n ≡ natAbs (wholeOf x)) where
-  pub minus-first : lt x (ofBits binary32 0) ≡ true → Partly out out at at (decimal (wholeOf x)) ((45 ∷ []) ++ natural n)
+  pub minus-first : lt x (ofBits binary32 0) ≡ true → Partly out out at at (decimal (wholeOf x)) (bytes "-" ++ natural n)
   minus-first t = partly-as (number-text (wholeOf x) n is .0 (sym (below-test x g) ∙ t)) (partly-none room)
 
   pub digits-only : lt x (ofBits binary32 0) ≡ false → Partly out out at at (decimal (wholeOf x)) (natural n)

@@ -60,6 +60,16 @@ behind-parse (p ∷ ps) (q ∷ qs) r t e h = go (behind-parse ps qs r t e)
         let g : GoesOn ps qs r t = rec (a .1) in
         record { rest = g .rest; whole = ap₂ _∷_ (sym (a .0)) (g .whole); text = g .text }
 
+-- the last of them
+pub behind-snoc : (ps : List Pt) (q : Pt) (r : List ℕ) → behind (map pointText (ps ++ (q ∷ []))) ++ r ≡ behind (map pointText ps) ++ (44 ∷ 32 ∷ (pointText q ++ r))
+unfolding behind
+behind-snoc [] q r = ap (λ (l : List ℕ). 44 ∷ 32 ∷ (l ++ r)) (append-nil (pointText q))
+behind-snoc (p ∷ ps) q r =
+    ap (λ (l : List ℕ). 44 ∷ 32 ∷ l)
+    (append-assoc (pointText p) (behind (map pointText (ps ++ (q ∷ [])))) r
+    ∙ ap (λ (l : List ℕ). pointText p ++ l) (behind-snoc ps q r)
+    ∙ sym (append-assoc (pointText p) (behind (map pointText ps)) (44 ∷ 32 ∷ (pointText q ++ r))))
+
 -- nothing goes on behind a closing parenthesis
 pub stops : (rest : List Pt) (s t : List ℕ) → 41 ∷ s ≡ behind (map pointText rest) ++ (41 ∷ t) → (rest ≡ []) × (s ≡ t)
 unfolding behind

@@ -4,5 +4,8 @@ pub mod Marks
 pub mod Stores
 pub mod Passing
 pub mod Corners
-pub mod Entry
+pub mod ReadEntry
 pub mod Outcomes
+pub mod Rings
+pub mod Areas
+pub mod WriteEntry

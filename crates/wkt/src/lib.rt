@@ -1,2 +1,3 @@
-// The drawing office's text, request M-101: a POLYGON line is read.
+// The drawing office's text: a POLYGON line is read and written, and areas are written as a MULTIPOLYGON line.
 pub mod read;
+pub mod write;

@@ -4,7 +4,7 @@ use mathlib.Core.Path.{sym}
 use borrow.Author.Needs.{needs}
 use denote.Ref.{now}
 use Rattle.wkt.specs.Reads.{ReadAs}
-use Rattle.wkt.proofs.Entry.{refused, too-many, held-length, own-holds, too-little, answered}
+use Rattle.wkt.proofs.ReadEntry.{refused, too-many, held-length, own-holds, too-little, answered}
 use Rattle.wkt.proofs.read.read_polygon.Statement.{statement}
 use Rattle.wkt.proofs.read.read_polygon.Tie as tie
 

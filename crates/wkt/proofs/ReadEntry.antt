@@ -1,4 +1,4 @@
--- What the entry gives back, by what was read; and that two results which its promise allows are equal.
+-- What the reader gives back, by what was read; and that two results which its promise allows are equal.
 use Prim.Native.Nat.{ℕ, _*_, _≤_, _<_}
 use native.Mathlib.Omega.{arith}
 use mathlib.Core.Path.{_≡_, refl, sym, ap, ap₂, _∙_}
