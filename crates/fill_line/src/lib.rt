@@ -3,8 +3,13 @@ use ear_clipping::triangulate_ear_clipping;
 use entries::Answer;
 use entries::MOST_INDICES;
 use entries::MOST_TRIANGLES;
+use entries::no_floats;
+use entries::threes;
 use entries::wide;
+use entries::zeros;
+use hertel_mehlhorn::hertel_mehlhorn_idx;
 use wkt::read::read_polygon;
+use wkt::write::write_multipolygon;
 ghost use mathlib.Core.Path.{_≡_};
 ghost use Prim.Native.Nat.{_≤_};
 ghost use lib.ListN.{length, take};
@@ -12,7 +17,7 @@ ghost use Rattle.rules.specs.Entries.{trianglesFor};
 ghost use Rattle.rules.specs.Limits.{mostPoints, mostCoordinates, mostIndices};
 ghost use Rattle.rules.specs.Lines.{areasFor, fillRoom, Fills};
 ghost use Rattle.rules.specs.Text.{firstLine};
-ghost use Rattle.wkt.specs.Promise.{readingOf};
+ghost use Rattle.wkt.specs.Promise.{writingOf};
 ghost use Rattle.fill_line.specs.CutLine.{lentFor, CutLine};
 
 // Room for the answer to any line. Where an outline of n corners is accepted, its n - 2 triangles take at most 56 bytes each: four points of
@@ -64,4 +69,60 @@ fn cut_line(line: &[u8], room: usize, coords: &mut [f32], indices: &mut [u32]) -
     let n = wide(read.count);
     let k = lent(n, room);
     triangulate_ear_clipping(&coords[..2 * n], &mut indices[..k])
+}
+
+// Fills the outline of a POLYGON line with triangles, written as a MULTIPOLYGON line: metrology's plan.
+pub fn fill_triangles(line: &[u8], out: &mut [u8]) -> Answer
+    ensures { λ r. ⌜ Fills trianglesFor (now (line .entry)) (now (out .entry)) (writingOf r (now (out .exit))) ⌝ }
+    ensures { λ r. ⌜ r .count ≤ length (now (out .entry)) ⌝ }
+{
+    let mut coords = no_floats();
+    let mut indices = zeros();
+    let cut = cut_line(line, out.len(), &mut coords, &mut indices);
+    let number = cut.number;
+    if number != 0 {
+        return Answer { number, count: 0 };
+    }
+    let m = wide(cut.count);
+    let lengths = threes();
+    let end = write_multipolygon(
+        &coords[..2 * m + 4],
+        &indices[..3 * m],
+        &lengths[..m],
+        out,
+    );
+    Answer {
+        number: 0,
+        count: end as u32,
+    }
+}
+
+// Fills the outline of a POLYGON line with convex areas, written as a MULTIPOLYGON line: the crews' plan. What the cutter has written is
+// never refused by the merger.
+pub fn fill_areas(line: &[u8], out: &mut [u8]) -> Answer
+    ensures { λ r. ⌜ Fills areasFor (now (line .entry)) (now (out .entry)) (writingOf r (now (out .exit))) ⌝ }
+    ensures { λ r. ⌜ r .count ≤ length (now (out .entry)) ⌝ }
+{
+    let mut coords = no_floats();
+    let mut triangles = zeros();
+    let cut = cut_line(line, out.len(), &mut coords, &mut triangles);
+    let number = cut.number;
+    if number != 0 {
+        return Answer { number, count: 0 };
+    }
+    let m = wide(cut.count);
+    let mut indices = zeros();
+    let mut lengths = threes();
+    let merged = hertel_mehlhorn_idx(
+        &coords[..2 * m + 4],
+        &triangles[..3 * m],
+        &mut indices,
+        &mut lengths,
+    );
+    let count = wide(merged.count);
+    let end = write_multipolygon(&coords[..2 * m + 4], &indices, &lengths[..count], out);
+    Answer {
+        number: 0,
+        count: end as u32,
+    }
 }

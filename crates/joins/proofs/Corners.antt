@@ -17,7 +17,7 @@ use Rattle.pieces.proofs.Below.{each-begun}
 
 -- a corner of a ring, as the code reads it
 pub corner-below : {cs : List Float} {store : List ℕ} → Known cs store → (r : Ring) (d x : ℕ) → d < length (begun store r) → x ≡ getD (begun store r) d 0 → x < length (pointsOf cs)
-corner-below {store} k r d x h e = rw e (each-at (begun store r) d h (each-begun store r (k .below)))
+corner-below {store} k r d x h e = rw e (each-at 0 (begun store r) d h (each-begun store r (k .below)))
 
 pub turn-is :
     (ps : List Pt) (a b c a' b' c' : ℕ) → a' ≡ a → b' ≡ b → c' ≡ c → (p q r : Pt) → p ≡ point ps a' → q ≡ point ps b' → r ≡ point ps c' → (d : Orientation) → d ≡ orientation (turn p q r)

@@ -26,7 +26,7 @@ use Rattle.rules.specs.Measure.{points, area2, NotRight, NotClockwise, N
 use Rattle.rules.proofs.Ears.{cut-not-right}
 use Rattle.rules.proofs.Pieces.{merge-no-right}
 use Rattle.rules.proofs.Outline.{cut-count, cut-indices}
-use Rattle.rules.proofs.Layouts.{triangles-length, triangles-back}
+use Rattle.rules.proofs.Layouts.{flat-each, triangles-length, triangles-back}
 use Rattle.rules.proofs.Rows.{row-off, no-rows, front-none, others-decide}
 use Rattle.rules.proofs.Fronts.{seven-front, list-front, triangles-front}
 use Rattle.rules.proofs.Outlines.{Outlined, outline-none}
@@ -36,11 +36,6 @@ use Rattle.rules.proofs.Plans.{triangles-size, triangles-plan}
 use Rattle.rules.proofs.Results.{triangles-are, not-right, cut-result, written-inside, written-area, merged-inside, merged-area, merged-size}
 
 -- ---- the merger's rows on triangles of an outline
-
-flat-each : {P : ℕ → Type 0} {l : List (List ℕ)} → Each (Each P) l → Each P (flatten l)
-unfolding flatten
-flat-each end = end
-flat-each (p & h) = each-++ p (flat-each h)
 
 in-range-none : (n : ℕ) {l : List ℕ} → Each (λ i. i < n) l → outOfRange n l ≡ false
 unfolding outOfRange

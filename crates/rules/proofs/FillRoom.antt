@@ -1,22 +1,24 @@
 -- The writing of a plan fits the room that filling asks for.
-use Prim.Native.Nat.{ℕ, zero, suc, _+_, _*_, _-_, _≤_, _<_}
+use Prim.Native.Nat.{ℕ, _≤_}
 use mathlib.Core.Path.{_≡_, refl}
 use mathlib.Core.Bool.{false, not}
 use mathlib.Core.List.{List, [], _∷_, map}
 use native.Mathlib.Omega.{arith}
 use lib.Dec.{leb}
 use lib.IntN.{natAbs}
-use lib.ListN.{length, getD, length-map}
+use lib.ListN.{length, length-append, length-map}
 use borrow.Author.Tests.{leb-true}
-use Rattle.algebra.specs.Lists.{Each, end, _&_}
-use Rattle.algebra.proofs.Lists.{each-imp, each-map, none-passes}
+use Rattle.algebra.specs.Lists.{Each}
+use Rattle.algebra.proofs.Lists.{each-at, each-imp, each-map, none-passes}
 use Rattle.algebra.proofs.Equal.{not-false, or-false}
 use Rattle.algebra.specs.Sums.{total, naturals}
 use Rattle.rules.specs.Limits.{gridEdge}
 use Rattle.rules.specs.Plane.{Pt, point}
 use Rattle.rules.specs.Measure.{points}
+use Rattle.rules.specs.Layout.{flatten}
 use Rattle.rules.specs.Text.{multipolygonLine}
 use Rattle.rules.specs.Lines.{offCorner, offCorners, fillRoom}
+use Rattle.rules.proofs.Layouts.{flat-size, few-pieces}
 use Rattle.rules.proofs.GridSizes.{GridPoint}
 use Rattle.rules.proofs.TextLengths.{multipolygon-short}
 use Rattle.rules.proofs.Plans.{Plan}
@@ -30,21 +32,13 @@ corners-on-grid corners e = each-imp on-grid (none-passes offCorner corners e)
         let (a, b) = or-false (not (leb (natAbs (p .x)) gridEdge)) (not (leb (natAbs (p .y)) gridEdge)) h in
         record { x-small = leb-true (natAbs (p .x)) gridEdge (not-false _ a); y-small = leb-true (natAbs (p .y)) gridEdge (not-false _ b) }
 
-each-at : {A : Type 0} {P : A → Type 0} (d : A) {l : List A} (i : ℕ) → Each P l → i < length l → P (getD l i d)
-each-at d i end h = absurd (omega arith)
-each-at d zero (p & ps) h = p
-each-at d (suc i) (p & ps) h = each-at d i ps (omega arith)
-
 -- how many corners there are in all
-corners-in : (ps : List Pt) {rings : List (List ℕ)} → Each (λ t. 3 ≤ length t) rings → total naturals length (map (points ps) rings) ≡ total naturals (λ t. length t - 2) rings + 2 * length rings
-corners-in ps end = refl
-corners-in ps (_&_ {a = t} h hs) = omega (arith, length-map t (point ps), corners-in ps hs)
-
-few-rings : {rings : List (List ℕ)} → Each (λ t. 3 ≤ length t) rings → length rings ≤ total naturals (λ t. length t - 2) rings
-few-rings end = omega arith
-few-rings (h & hs) = omega (arith, few-rings hs)
+corners-in : (ps : List Pt) (rings : List (List ℕ)) → total naturals length (map (points ps) rings) ≡ length (flatten rings)
+unfolding flatten
+corners-in ps [] = refl
+corners-in ps (t ∷ rings) = omega (arith, length-map t (point ps), length-append t (flatten rings), corners-in ps rings)
 
 pub plan-fits : (ps : List Pt) (rings : List (List ℕ)) → Plan ps rings → offCorners ps ≡ false → length (multipolygonLine (map (points ps) rings)) ≤ fillRoom (length ps)
 plan-fits ps rings plan off =
-    let grid = each-map (points ps) (each-imp (λ t h. each-map (point ps) (each-imp (λ i k. each-at _ i (corners-on-grid ps off) k) h)) (plan .below)) in
-    omega (arith, multipolygon-short (map (points ps) rings) grid, length-map rings (points ps), corners-in ps (plan .three), few-rings (plan .three), plan .size)
+    let grid = each-map (points ps) (each-imp (λ t h. each-map (point ps) (each-imp (λ i k. each-at _ ps i k (corners-on-grid ps off)) h)) (plan .below)) in
+    omega (arith, multipolygon-short (map (points ps) rings) grid, length-map rings (points ps), corners-in ps rings, flat-size (plan .three), few-pieces (plan .three), plan .size)

@@ -1,11 +1,13 @@
 -- What is written can be read back: triangles three and three, and pieces by their lengths.
-use Prim.Native.Nat.{ℕ, _*_, _≤_}
+use Prim.Native.Nat.{ℕ, _+_, _*_, _-_, _≤_}
 use mathlib.Core.Path.{_≡_, refl, _∙_, ap, ap₂}
 use mathlib.Core.List.{List, [], _∷_, _++_, map, append-assoc}
 use native.Mathlib.Omega.{arith}
 use lib.ListN.{length, take, drop, length-append, length-drop}
 use lib.Seq.{take-append-seam, drop-append-seam}
-use Rattle.algebra.specs.Lists.{Each, end, _&_}
+use Rattle.algebra.specs.Lists.{Each, end, _&_, sum}
+use Rattle.algebra.specs.Sums.{total, naturals}
+use Rattle.algebra.proofs.Lists.{each-++}
 use Rattle.algebra.specs.Rings.{Corner, ringOf}
 use Rattle.rules.specs.Layout.{flatten, split, triples, over}
 
@@ -14,6 +16,28 @@ take-over written old = take-append-seam written (drop (length written) old)
 
 pub length-over : {A : Type 0} (written old : List A) → length written ≤ length old → length (over written old) ≡ length old
 length-over written old h = simp (length-append, length-drop) (omega arith)
+
+-- ---- pieces one behind the other
+
+pub flat-each : {P : ℕ → Type 0} {l : List (List ℕ)} → Each (Each P) l → Each P (flatten l)
+unfolding flatten
+flat-each end = end
+flat-each (p & h) = each-++ p (flat-each h)
+
+pub sum-lengths : (l : List (List ℕ)) → sum (map length l) ≡ length (flatten l)
+unfolding sum flatten
+sum-lengths [] = refl
+sum-lengths (p ∷ l) = omega (arith, sum-lengths l, length-append p (flatten l))
+
+-- of pieces of three corners or more
+pub flat-size : {l : List (List ℕ)} → Each (λ t. 3 ≤ length t) l → length (flatten l) ≡ total naturals (λ t. length t - 2) l + 2 * length l
+unfolding flatten
+flat-size end = refl
+flat-size (_&_ {a = t} {l = l} h hs) = omega (arith, length-append t (flatten l), flat-size hs)
+
+pub few-pieces : {l : List (List ℕ)} → Each (λ t. 3 ≤ length t) l → length l ≤ total naturals (λ t. length t - 2) l
+few-pieces end = omega arith
+few-pieces (h & hs) = omega (arith, few-pieces hs)
 
 -- ---- triangles
 

@@ -30,6 +30,11 @@ pub record Plan (ps : List Pt) (rings : List (List ℕ)) : Type 0 where
   pub inside : (p : Pt) → oddCrossings p ps ≡ odd (λ t. oddCrossings p (points ps t)) rings
   pub area : area2 ps ≡ total integers (λ t. area2 (points ps t)) rings
 
+-- there is a ring
+pub plan-some : (ps : List Pt) (rings : List (List ℕ)) → 3 ≤ length ps → Plan ps rings → 0 < length rings
+plan-some ps [] three plan = absurd (omega (arith, plan .size))
+plan-some ps (t ∷ rings) three plan = omega arith
+
 pub triangles-size : (ts : List (Corner ℕ)) → total naturals (λ t. length t - 2) (map ringOf ts) ≡ length ts
 triangles-size [] = refl
 triangles-size (t ∷ ts) = omega (arith, triangles-size ts)

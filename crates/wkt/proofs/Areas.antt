@@ -39,7 +39,7 @@ module _ (ps : List Pt) (lengths indices : List ℕ) where
 
   pub here : (i from n : ℕ) → Each (λ k. 0 < k) lengths → i < length lengths → n ≡ getD lengths i 0 → from + sum (drop i lengths) ≤ length indices → Here i from n
   here i from n each h e fits = record {
-    some = omega (arith, each-at lengths i h each);
+    some = omega (arith, each-at 0 lengths i h each);
     within = omega (arith, sum-next lengths i h);
     others = omega (arith, sum-next lengths i h);
   }

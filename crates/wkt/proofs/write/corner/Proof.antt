@@ -27,7 +27,7 @@ wide-requires c κs = search needs
 point-at-requires : tie.Need-point-at-requires
 point-at-requires c κs =
     let k = start c .pre .0 in
-    (k .on-grid, rw (c .wide .ensures) (point-fits _ _ (each-at _ _ (start c .pre .1) (k .below))))
+    (k .on-grid, rw (c .wide .ensures) (point-fits _ _ (each-at 0 _ _ (start c .pre .1) (k .below))))
 
 returns : tie.Need-returns
 returns c =
