@@ -48,15 +48,24 @@ pub cut-refused :
 cut-refused plan line out r coords indices (not-in-form h e) d = subst (λ (n : ℕ). Fills plan line out (record { number = n; count = 0; text = out })) (sym e) (fills-not plan line out h)
 cut-refused plan line out r coords indices (in-form {corners = corners} form e into) d = fills-refused plan line out corners form e d
 
-pub record Cut (line : List ℕ) (room m : ℕ) (coords : List Float) (indices : List ℕ) : Type 0 where
+pub record Cut (line out : List ℕ) (m : ℕ) (coords : List Float) (indices : List ℕ) : Type 0 where
   pub corners : List Pt
   pub form : InForm line corners
-  pub none : firstRefusal (fillChecks corners room) ≡ 0
+  pub none : firstRefusal (fillChecks corners (length out)) ≡ 0
   pub into : CutInto corners m coords indices
+  pub size : length coords ≡ mostCoordinates
 
-pub cut-done : {line : List ℕ} {room : ℕ} {r : Answer} {coords : List Float} {indices : List ℕ} → CutLine line room r coords indices → r .number ≡ 0 → Cut line room (r .count) coords indices
-cut-done (not-in-form h e) z = absurd (omega arith)
-cut-done (in-form {corners = corners} form e into) z = record { corners = corners; form = form; none = sym e ∙ z; into = into z }
+pub cut-done :
+    {line : List ℕ} (out : List ℕ) {m : ℕ} {r : Answer} {coords : List Float} {indices : List ℕ} → CutLine line (length out) r coords indices → length coords ≡ mostCoordinates → r .number ≡ 0
+    → m ≡ r .count → Cut line out m coords indices
+cut-done out (not-in-form h e) size z n = absurd (omega arith)
+cut-done out {coords = coords} {indices = indices} (in-form {corners = corners} form e into) size z n = record {
+  corners = corners;
+  form = form;
+  none = sym e ∙ z;
+  into = subst (λ (k : ℕ). CutInto corners k coords indices) (sym n) (into z);
+  size = size;
+}
 
 -- ---- corner numbers and lengths that stand for a plan
 
@@ -89,7 +98,7 @@ each-replicate a (suc n) p = p & each-replicate a n p
 
 -- ---- a line that was cut
 
-module _ (line out : List ℕ) (m : ℕ) (coords : List Float) (triangles : List ℕ) (size : length coords ≡ mostCoordinates) (cut : Cut line (length out) m coords triangles) where
+module _ {line out : List ℕ} {m : ℕ} {coords : List Float} {triangles : List ℕ} (cut : Cut line out m coords triangles) where
   abbrev corners : List Pt
   corners = cut .corners
 
@@ -104,7 +113,7 @@ module _ (line out : List ℕ) (m : ℕ) (coords : List Float) (triangles : List
   few = omega (arith, cut .into .counted, outline .outline .at-most)
 
   -- what the writer needs of a plan, and what it leaves
-  module _ (plan : List Pt → List (List ℕ)) (kept : Plan corners (plan corners)) (indices lengths : List ℕ) (s : Stands cs (plan corners) indices lengths) where
+  module _ (plan : List Pt → List (List ℕ)) (kept : Plan corners (plan corners)) {indices lengths : List ℕ} (s : Stands cs (plan corners) indices lengths) where
     text-is : multipolygonLine (map (points (pointsOf cs)) (split lengths indices)) ≡ multipolygonLine (map (points corners) (plan corners))
     text-is = ap₂ (λ (ps : List Pt) (l : List (List ℕ)). multipolygonLine (map (points ps) l)) (cut .into .points) (s .read-back)
 
@@ -114,7 +123,7 @@ module _ (line out : List ℕ) (m : ℕ) (coords : List Float) (triangles : List
     pub text-fits : Room out 0 (multipolygonLine (map (points (pointsOf cs)) (split lengths indices)))
     text-fits = record { fits = omega (arith, ap length text-is, fits, outline .fits) }
 
-    module _ (new : List ℕ) (n : ℕ) (w : Wrote out new 0 n (multipolygonLine (map (points (pointsOf cs)) (split lengths indices)))) where
+    module _ {new : List ℕ} {n : ℕ} (w : Wrote out new 0 n (multipolygonLine (map (points (pointsOf cs)) (split lengths indices)))) where
       count-is : n ≡ length (multipolygonLine (map (points corners) (plan corners)))
       count-is = wrote-over w .1 ∙ ap length text-is
 
@@ -130,7 +139,7 @@ module _ (line out : List ℕ) (m : ℕ) (coords : List Float) (triangles : List
 
   -- ---- triangles
 
-  triangles-kept : Plan corners (trianglesFor corners)
+  pub triangles-kept : Plan corners (trianglesFor corners)
   triangles-kept = triangles-plan corners _ (outline .outline)
 
   lengths-three : map length (trianglesFor corners) ≡ replicate m 3
@@ -153,11 +162,11 @@ module _ (line out : List ℕ) (m : ℕ) (coords : List Float) (triangles : List
 
   -- ---- areas
 
-  areas-kept : Plan corners (areasFor corners)
+  pub areas-kept : Plan corners (areasFor corners)
   areas-kept = areas-plan corners _ (outline .outline)
 
   cs-length : length cs ≡ 2 * (m + 2)
-  cs-length = length-take-le (2 * m + 4) coords (omega (arith, few)) ∙ omega arith
+  cs-length = length-take-le (2 * m + 4) coords (omega (arith, few, cut .size)) ∙ omega arith
 
   outlined : Outlined 0 mostPoints cs
   outlined = record {
@@ -167,10 +176,10 @@ module _ (line out : List ℕ) (m : ℕ) (coords : List Float) (triangles : List
     on-grid = cut .into .on-grid;
   }
 
-  module _ (indices lengths : List ℕ) (room : length indices ≡ mostIndices) (room-for-lengths : length lengths ≡ mostTriangles) where
-    abbrev given : List ℕ
-    given = take (3 * m) triangles
+  abbrev given : List ℕ
+  given = take (3 * m) triangles
 
+  module _ (indices lengths : List ℕ) (room : length indices ≡ mostIndices) (room-for-lengths : length lengths ≡ mostTriangles) where
     -- the merger takes the cut's triangles
     takes : merger cs given indices lengths .number ≡ 0
     takes =
@@ -190,20 +199,20 @@ module _ (line out : List ℕ) (m : ℕ) (coords : List Float) (triangles : List
     answered = merger-answered cs given indices lengths takes ∙ ap (λ (l : List (List ℕ)). record { number = 0; count = length l; indices = over (flatten l) indices; lengths = over (map length l) lengths }) merged-are
 
     -- of what the merger promises
-    module _ (r : Answer) (indices' lengths' : List ℕ) (p : Promise cs given indices lengths r indices' lengths') where
+    module _ {r : Answer} {indices' lengths' : List ℕ} (p : Promise cs given indices lengths r indices' lengths') where
       pub areas-count : r .count ≡ length (areasFor corners)
       areas-count = p .count ∙ ap (λ (w : Merging). w .count) answered
 
       pub areas-few : r .count ≤ mostTriangles
       areas-few = omega (arith, areas-count, few-pieces (areas-kept .three), areas-kept .size, outline .outline .at-most)
 
-      pub areas-stand : indices ≡ replicate mostIndices 0 → Stands cs (areasFor corners) indices' (take (r .count) lengths')
-      areas-stand zeros =
+      pub areas-stand : (n : ℕ) → n ≡ r .count → indices ≡ replicate mostIndices 0 → Stands cs (areasFor corners) indices' (take n lengths')
+      areas-stand n count zeros =
           let is : indices' ≡ flatten (areasFor corners) ++ drop (length (flatten (areasFor corners))) indices = p .indices-are ∙ ap (λ (w : Merging). w .indices) answered in
-          let ls : take (r .count) lengths' ≡ map length (areasFor corners)
-          = ap₂ take (areas-count ∙ sym (length-map (areasFor corners) length)) (p .lengths-are ∙ ap (λ (w : Merging). w .lengths) answered) ∙ take-over (map length (areasFor corners)) lengths in
+          let ls : take n lengths' ≡ map length (areasFor corners)
+          = ap₂ take (count ∙ areas-count ∙ sym (length-map (areasFor corners) length)) (p .lengths-are ∙ ap (λ (w : Merging). w .lengths) answered) ∙ take-over (map length (areasFor corners)) lengths in
           let below : Each (λ i. i < length corners) (drop (length (flatten (areasFor corners))) indices)
           = each-drop (length (flatten (areasFor corners))) indices (subst (Each (λ i. i < length corners)) (sym zeros) (each-replicate 0 mostIndices (omega (arith, outline .outline .three)))) in
-          subst (λ (l : List ℕ). Stands cs (areasFor corners) l (take (r .count) lengths')) (sym is)
+          subst (λ (l : List ℕ). Stands cs (areasFor corners) l (take n lengths')) (sym is)
           (subst (Stands cs (areasFor corners) (flatten (areasFor corners) ++ drop (length (flatten (areasFor corners))) indices)) (sym ls)
           (stand cs corners (areasFor corners) _ (cut .into .points) (cut .into .on-grid) (outline .outline .three) areas-kept below))

@@ -1,3 +1,4 @@
 pub mod FirstLine
 pub mod Cutting
 pub mod Filling
+pub mod Entry

@@ -1,139 +1,174 @@
+-- `fill_areas` meets its contract: what the line's cut refuses, or the merged areas as text.
+use Prim.Native.Nat.{_+_, _*_, _≤_}
+use native.Mathlib.Omega.{arith}
 use borrow.Author.Needs.{needs}
+use mathlib.Core.Path.{_≡_, sym}
+use denote.Ref.{now}
+use lib.ListN.{length, take}
+use lib.Seq.{length-take-le}
+use Rattle.rules.specs.Limits.{mostCoordinates, mostTriangles, mostIndices}
+use Rattle.rules.specs.Lines.{areasFor}
+use Rattle.fill_line.proofs.Filling.{Cut, Stands, cut-refused, cut-done, few, text-fits, text-small, text-within, text-written, areas-kept, areas-few, areas-stand}
 use Rattle.fill_line.proofs.fill_areas.Statement.{statement}
 use Rattle.fill_line.proofs.fill_areas.Tie as tie
-use Rattle.fill_line.proofs.fill_areas.Reads as reads
-use Rattle.fill_line.proofs.fill_areas.Lts as lts
-use Rattle.entries.proofs.no_floats.Reads as no-floats-reads
-use Rattle.entries.proofs.threes.Reads as threes-reads
-use Rattle.entries.proofs.wide.Reads as wide-reads
-use Rattle.entries.proofs.zeros.Reads as zeros-reads
-use Rattle.fill_line.proofs.cut_line.Reads as cut-line-reads
-use Rattle.hertel_mehlhorn.proofs.hertel_mehlhorn_idx.Reads as hertel-mehlhorn-idx-reads
-use Rattle.wkt.proofs.write.write_multipolygon.Reads as write-multipolygon-reads
 
--- src/lib.rt:106:22
+-- the places of the code, each from a later one
+abbrev start : tie.After-zeros → tie.Start
+start c = c .before .before .before .before
+
+abbrev lent : tie.After-cut-line → tie.After-zeros
+lent c = c .before .before .before
+
+abbrev cut-at : tie.Else1 → tie.After-cut-line
+cut-at c = c .before .before .before
+
+abbrev accepted : tie.After-threes → tie.Else1
+accepted c = c .before .before .before
+
+abbrev shared : tie.After-lengths → tie.After-coords3
+shared c = c .before .before .before
+
+abbrev merged : tie.After-wide2 → tie.After-hertel-mehlhorn-idx
+merged c = c .before .before .before
+
+abbrev ready : tie.After-wide2 → tie.After-threes
+ready c = shared (merged c .before) .before
+
+abbrev counted : tie.After-write-multipolygon-arg → tie.After-wide2
+counted c = c .before .before .before .before
+
+abbrev written : tie.After-slice-known2 → tie.After-write-multipolygon
+written c = c .before .before
+
+-- the line's cut
+known :
+    (c : tie.After-threes)
+    → Cut (now (start (lent (cut-at (accepted c))) .args .line)) (now (start (lent (cut-at (accepted c))) .args .out)) (c .before .before .wide .result) (cut-at (accepted c) .cut-line .last .1 .1 .0)
+    (cut-at (accepted c) .cut-line .last .1 .1 .1 .0)
+known c =
+    let k = cut-at (accepted c) in
+    let size : length (k .cut-line .last .1 .1 .0) ≡ mostCoordinates = omega (arith, k .cut-line .kept, lent k .before .no-floats .ensures) in
+    cut-done _ (k .cut-line .ensures) size (accepted c .if1 .left) (c .before .before .wide .ensures)
+
+-- what the merger has left stands for the areas
+merged-few : (c : tie.After-wide2) → c .wide2 .result ≤ mostTriangles
+merged-few c =
+    let t = ready c in
+    omega (arith, c .wide2 .ensures, areas-few (known t) _ _ (t .before .zeros2 .ensures .0) (t .threes .ensures .0) (merged c .hertel-mehlhorn-idx .ensures))
+
+stands :
+    (c : tie.After-wide2)
+    → Stands (take (2 * ready c .before .before .wide .result + 4) (cut-at (accepted (ready c)) .cut-line .last .1 .1 .0)) (areasFor (known (ready c) .corners)) (merged c .hertel-mehlhorn-idx .last .1 .1 .0)
+    (take (c .wide2 .result) (merged c .hertel-mehlhorn-idx .last .1 .1 .1 .0))
+stands c =
+    let t = ready c in
+    areas-stand (known t) _ _ (t .before .zeros2 .ensures .0) (t .threes .ensures .0) (merged c .hertel-mehlhorn-idx .ensures) _ (c .wide2 .ensures) (t .before .zeros2 .ensures .1)
+
 no-floats-requires : tie.Need-no-floats-requires
 no-floats-requires c κs = search needs
 
--- src/lib.rt:107:25
 zeros-requires : tie.Need-zeros-requires
 zeros-requires c κs = search needs
 
--- src/lib.rt:108:41
 slice-aggregate-cut-line : tie.Need-slice-aggregate-cut-line
 slice-aggregate-cut-line c = search needs
 
--- src/lib.rt:108:54
 slice-aggregate-cut-line-2 : tie.Need-slice-aggregate-cut-line-2
 slice-aggregate-cut-line-2 c = search needs
 
--- src/lib.rt:108:9
 cut-line-requires : tie.Need-cut-line-requires
 cut-line-requires c κs = search needs
 
--- src/lib.rt:111:9
 returns : tie.Need-returns
-returns c = ?
+returns c = let k = c .before .before .before in (cut-refused areasFor _ _ (k .cut-line .result) _ _ (k .cut-line .ensures) (c .if1 .taken), omega arith)
 
--- src/lib.rt:113:9
 wide-requires : tie.Need-wide-requires
 wide-requires c κs = search needs
 
--- src/lib.rt:114:23
 zeros-requires-2 : tie.Need-zeros-requires-2
 zeros-requires-2 c κs = search needs
 
--- src/lib.rt:115:23
 threes-requires : tie.Need-threes-requires
 threes-requires c κs = search needs
 
--- src/lib.rt:117:19
 mul-coords : tie.Need-mul-coords
 mul-coords c = search needs
 
--- src/lib.rt:117:19
 add-coords : tie.Need-add-coords
 add-coords c = search needs
 
--- src/lib.rt:117:9
 array-share-prefix-coords : tie.Need-array-share-prefix-coords
-array-share-prefix-coords c = ?
+array-share-prefix-coords c = omega (arith, few (known c), known c .size)
 
--- src/lib.rt:117:9
 slice-aggregate-hertel-mehlhorn-idx : tie.Need-slice-aggregate-hertel-mehlhorn-idx
-slice-aggregate-hertel-mehlhorn-idx c = ?
+slice-aggregate-hertel-mehlhorn-idx c = sym (length-take-le _ _ (array-share-prefix-coords (c .before)))
 
--- src/lib.rt:118:22
 mul-triangles : tie.Need-mul-triangles
 mul-triangles c = search needs
 
--- src/lib.rt:118:9
 array-share-prefix-triangles : tie.Need-array-share-prefix-triangles
-array-share-prefix-triangles c = ?
+array-share-prefix-triangles c = let k = cut-at (accepted (c .before)) in omega (arith, few (known (c .before)), k .cut-line .kept, lent k .zeros .ensures)
 
--- src/lib.rt:118:9
 slice-aggregate-hertel-mehlhorn-idx-2 : tie.Need-slice-aggregate-hertel-mehlhorn-idx-2
-slice-aggregate-hertel-mehlhorn-idx-2 c = ?
+slice-aggregate-hertel-mehlhorn-idx-2 c = sym (length-take-le _ _ (array-share-prefix-triangles (c .before)))
 
--- src/lib.rt:119:9
 slice-aggregate-hertel-mehlhorn-idx-3 : tie.Need-slice-aggregate-hertel-mehlhorn-idx-3
 slice-aggregate-hertel-mehlhorn-idx-3 c = search needs
 
--- src/lib.rt:120:9
 slice-aggregate-hertel-mehlhorn-idx-4 : tie.Need-slice-aggregate-hertel-mehlhorn-idx-4
 slice-aggregate-hertel-mehlhorn-idx-4 c = search needs
 
--- src/lib.rt:116:9
 hertel-mehlhorn-idx-requires : tie.Need-hertel-mehlhorn-idx-requires
 hertel-mehlhorn-idx-requires c κs = search needs
 
--- src/lib.rt:122:9
 wide-requires-2 : tie.Need-wide-requires-2
 wide-requires-2 c κs = search needs
 
--- src/lib.rt:123:44
 mul-coords-2 : tie.Need-mul-coords-2
 mul-coords-2 c = search needs
 
--- src/lib.rt:123:44
 add-coords-2 : tie.Need-add-coords-2
 add-coords-2 c = search needs
 
--- src/lib.rt:123:34
 array-share-prefix-coords-2 : tie.Need-array-share-prefix-coords-2
-array-share-prefix-coords-2 c = ?
+array-share-prefix-coords-2 c = omega (arith, few (known (ready c)), known (ready c) .size)
 
--- src/lib.rt:123:34
 slice-aggregate-write-multipolygon : tie.Need-slice-aggregate-write-multipolygon
-slice-aggregate-write-multipolygon c = ?
+slice-aggregate-write-multipolygon c = sym (length-take-le _ _ (array-share-prefix-coords-2 (c .before)))
 
--- src/lib.rt:123:56
 slice-aggregate-write-multipolygon-2 : tie.Need-slice-aggregate-write-multipolygon-2
-slice-aggregate-write-multipolygon-2 c = search needs
+slice-aggregate-write-multipolygon-2 c =
+    let w = c .before .before in
+    omega (arith, merged w .hertel-mehlhorn-idx .kept, ready w .before .zeros2 .ensures .0)
 
--- src/lib.rt:123:66
 array-share-prefix-lengths : tie.Need-array-share-prefix-lengths
-array-share-prefix-lengths c = ?
+array-share-prefix-lengths c =
+    let w = c .before .before in
+    omega (arith, merged-few w, merged w .hertel-mehlhorn-idx .kept, ready w .threes .ensures .0)
 
--- src/lib.rt:123:66
 slice-aggregate-write-multipolygon-3 : tie.Need-slice-aggregate-write-multipolygon-3
-slice-aggregate-write-multipolygon-3 c = ?
+slice-aggregate-write-multipolygon-3 c = sym (length-take-le _ _ (array-share-prefix-lengths (c .before)))
 
--- src/lib.rt:123:9
 write-multipolygon-requires : tie.Need-write-multipolygon-requires
-write-multipolygon-requires c κs = ?
+write-multipolygon-requires c κs =
+    let w = counted c in
+    let s = stands w in
+    (s .known, ((s .some, s .within), (s .filled-each, text-fits (known (ready w)) areasFor (areas-kept (known (ready w))) s)))
 
--- src/lib.rt:126:16
 cast-t40 : tie.Need-cast-t40
-cast-t40 c = ?
+cast-t40 c =
+    let w = counted (written c .before) in
+    omega (arith, text-small (known (ready w)) areasFor (areas-kept (known (ready w))) (stands w) (written c .write-multipolygon .ensures))
 
--- src/lib.rt:102:1
 same-length : tie.Need-same-length
 same-length c = search needs
 
--- src/lib.rt:102:1
 returns-2 : tie.Need-returns-2
-returns-2 c = ?
+returns-2 c =
+    let w = counted (written c .before) in
+    let k = known (ready w) in
+    let e = written c .write-multipolygon .ensures in
+    (text-written k areasFor (areas-kept k) (stands w) e, text-within k areasFor (areas-kept k) (stands w) e)
 
 pub fill-areas-spec : {M : Type 1} → statement M
 fill-areas-spec =
