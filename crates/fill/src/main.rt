@@ -50,27 +50,37 @@ struct Input {
     failed: bool,
 }
 
+fn whole(bytes: usize) -> Input
+    ensures { λ r. ⌜ r .bytes ≡ bytes ⌝ }
+{
+    Input {
+        bytes,
+        failed: false,
+    }
+}
+
 // Reads until a newline has come, the room is full or the input ends.
 fn read_line(list: &mut [u8]) -> Input
     ensures { λ r. ⌜ r .bytes ≤ length (now (list .entry)) ⌝ }
     ensures { λ r. ⌜ length (now (list .exit)) ≡ length (now (list .entry)) ⌝ }
 {
     let mut have = 0;
-    let mut goes_on = true;
-    let mut failed = false;
-    while goes_on {
+    while have < list.len() {
         let got = more(list, have);
         let came = got.bytes;
-        let to = have + came;
-        let end = line_end(&list[have..to]);
-        failed = got.failed;
-        goes_on = 0 < came && came <= end;
-        have = to;
+        if came == 0 {
+            return Input {
+                bytes: have,
+                failed: got.failed,
+            };
+        }
+        let from = have;
+        have += came;
+        if line_end(&list[from..have]) < came {
+            return whole(have);
+        }
     }
-    Input {
-        bytes: have,
-        failed,
-    }
+    whole(have)
 }
 
 fn say(words: &[u8]) {
