@@ -1,6 +1,7 @@
 // Hasplight for those who link it: the entries on numbers and byte slices. Each f32, index or length stands as four bytes, low byte
 // first; bytes past the last whole four are neither read nor written.
 mod room;
+pub mod text;
 
 use entries::Answer;
 use entries::FEW_COORDINATES;
