@@ -11,6 +11,7 @@ fn long(digits: usize, second: &str) -> Vec<u8> {
 
 /// Lines that tell neighbouring rules apart.
 pub fn fixed() -> Vec<Vec<u8>> {
+    #[rustfmt::skip]
     let texts = [
         "POLYGON ((0 0, 4 0, 4 4, 0 4, 0 0))", "POLYGON ((0 0, 4 0, 0 4, 0 0))", "POLYGON ((99999 0, 1 0, 1 1, 88888 0))", "POLYGON ((99999 0, 1 0, 1 1, 99999 0))",
         "POLYGON ((5 5, 5 5))", "POLYGON ((5 5))", "POLYGON ((5 5, 6 6, 5 5))", "POLYGON ((00 0, 4 0, 0 4, 00 0))", "POLYGON ((-0 0, 4 0, 0 4, -0 0))", "POLYGON ((+1 0, 4 0, 0 4, +1 0))",
@@ -28,6 +29,9 @@ pub fn fixed() -> Vec<Vec<u8>> {
     lines
 }
 
+/// Those that a line has, and some others.
+const BYTES: &[u8] = b"POLYGON(), -0123456789\t\r+.";
+
 /// A line, most often in form.
 pub fn random(r: &mut Random) -> Vec<u8> {
     let mut outline = random_outline(r);
@@ -38,7 +42,7 @@ pub fn random(r: &mut Random) -> Vec<u8> {
     let mut line = polygon(&outline).into_bytes();
     if r.below(3) == 0 {
         for _ in 0..1 + r.below(3) {
-            let byte = b"POLYGON(), -0123456789\t\r+."[r.below(27)];
+            let byte = BYTES[r.below(BYTES.len())];
             let at = r.below(line.len());
             match r.below(3) {
                 0 => line[at] = byte,

@@ -2,10 +2,10 @@
 // refusal alone on a line. Without words it is filled by merged areas, with the word `triangles` by the triangles of the cut.
 use entries::Answer;
 use entries::wide;
-use fill_line::MOST_TEXT;
 use fill_line::fill_areas;
 use fill_line::fill_triangles;
 use fill_line::line_end;
+use fill_line::text_room;
 use input::more;
 ghost use Prim.Native.Nat.{_≤_};
 ghost use mathlib.Core.Path.{_≡_};
@@ -37,12 +37,6 @@ fn line_room() -> [u8; 8193]
     ensures { λ r. ⌜ length r ≡ 8193 ⌝ }
 {
     [0u8; 8193]
-}
-
-fn text_room() -> [u8; MOST_TEXT]
-    ensures { λ r. ⌜ length r ≡ 28575 ⌝ }
-{
-    [0u8; MOST_TEXT]
 }
 
 struct Input {

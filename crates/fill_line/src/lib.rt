@@ -24,6 +24,12 @@ ghost use Rattle.fill_line.specs.CutLine.{lentFor, CutLine};
 // up to eleven bytes, ten for parentheses and between the points, and two in front of the next. Areas take fewer.
 pub const MOST_TEXT: usize = 15 + 56 * MOST_TRIANGLES;
 
+pub fn text_room() -> [u8; MOST_TEXT]
+    ensures { λ r. ⌜ length r ≡ fillRoom mostPoints ⌝ }
+{
+    [0u8; MOST_TEXT]
+}
+
 // Where the first line of some bytes ends: at its newline, or behind the last byte.
 pub fn line_end(bytes: &[u8]) -> usize
     ensures { λ r. ⌜ take r (now (bytes .entry)) ≡ firstLine (now (bytes .entry)) ⌝ }
@@ -85,12 +91,7 @@ pub fn fill_triangles(line: &[u8], out: &mut [u8]) -> Answer
     }
     let m = wide(cut.count);
     let lengths = threes();
-    let end = write_multipolygon(
-        &coords[..2 * m + 4],
-        &indices[..3 * m],
-        &lengths[..m],
-        out,
-    );
+    let end = write_multipolygon(&coords[..2 * m + 4], &indices[..3 * m], &lengths[..m], out);
     Answer {
         number: 0,
         count: end as u32,

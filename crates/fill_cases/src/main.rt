@@ -1,0 +1,102 @@
+// Lines filled by both plans, printed for a person to read: the request's example, each refusal, and the longest lines. What is in form and
+// on the grid is also written back.
+mod build;
+mod show;
+
+use show::front;
+use show::lines;
+use show::named;
+use show::text;
+
+// The request's square, an area with a corner that turns right, a triangle as wide as the grid.
+fn filled() {
+    lines(b"POLYGON ((0 0, 4 0, 4 4, 0 4, 0 0))");
+    lines(b"POLYGON ((0 0, 2 1, 4 0, 2 4, 0 0))");
+    lines(b"POLYGON ((-1024 -1024, 1024 -1024, 0 1024, -1024 -1024))");
+    lines(b"POLYGON ((0 0, 300 0, 320 20, 320 130, 300 150, 150 150, 150 400, 0 400, 0 0))");
+}
+
+// In form, and refused by document 01's numbers.
+fn refused() {
+    lines(b"POLYGON ((5 5, 5 5))");
+    lines(b"POLYGON ((5 5, 6 6, 5 5))");
+    lines(b"POLYGON ((0 0, 1025 0, 0 4, 0 0))");
+    lines(b"POLYGON ((0 0, 4 0, 0 -1025, 0 0))");
+    lines(b"POLYGON ((99999 0, 1 0, 1 1, 99999 0))");
+    lines(b"POLYGON ((0 0, 0 0, 4 0, 0 0))");
+    lines(b"POLYGON ((0 0, 4 0, 0 4, 0 4, 0 0))");
+    lines(b"POLYGON ((0 0, 0 4, 4 4, 4 0, 0 0))");
+    lines(b"POLYGON ((0 0, 1 0, 2 0, 3 0, 0 0))");
+}
+
+// Not in form, by the points.
+fn points_not_in_form() {
+    lines(b"POLYGON ((5 5))");
+    lines(b"POLYGON ((99999 0, 1 0, 1 1, 88888 0))");
+    lines(b"POLYGON ((0 0, 4 0, 0 4, 0 1))");
+    lines(b"POLYGON ((00 0, 4 0, 0 4, 00 0))");
+    lines(b"POLYGON ((0 0, 04 0, 0 4, 0 0))");
+    lines(b"POLYGON ((-0 0, 4 0, 0 4, -0 0))");
+    lines(b"POLYGON ((+1 0, 4 0, 0 4, +1 0))");
+    lines(b"POLYGON ((0.0 0, 4 0, 0 4, 0.0 0))");
+    lines(b"POLYGON ((0, 4 0, 0 4, 0))");
+    lines(b"POLYGON ((- 0, 4 0, 0 4, - 0))");
+}
+
+// And by what stands round them.
+fn rest_not_in_form() {
+    lines(b"");
+    lines(b"POLYGON EMPTY");
+    lines(b"POLYGON (())");
+    lines(b"POLYGON((0 0, 4 0, 0 4, 0 0))");
+    lines(b"polygon ((0 0, 4 0, 0 4, 0 0))");
+    lines(b" POLYGON ((0 0, 4 0, 0 4, 0 0))");
+    lines(b"POLYGON ((0 0, 4 0, 0 4, 0 0)) ");
+    lines(b"POLYGON ((0 0,4 0,0 4,0 0))");
+    lines(b"POLYGON ((0  0, 4 0, 0 4, 0 0))");
+    lines(b"POLYGON ((0 0, 4 0, 0 4, 0 0)");
+    lines(b"POLYGON ((0 0, 4 0, 0 4, 0 0), (1 1, 2 1, 1 2, 1 1))");
+    named(b"a tab for a space", b"POLYGON ((0\t0, 4 0, 0 4, 0 0))");
+    named(b"a carriage return", b"POLYGON ((0 0, 4 0, 0 4, 0 0))\r");
+}
+
+// Numbers of 4,082 digits: 8,192 bytes, and one more.
+fn long_numbers() {
+    let mut line = build::room();
+    let n = build::digits(&mut line, b" 0, 1 0, 1 1, ");
+    named(b"two numbers of 4,082 digits", front(&line, n));
+    let mut longer = build::room();
+    let m = build::digits(&mut longer, b" 0, 10 0, 1 1, ");
+    named(b"one digit more", front(&longer, m));
+}
+
+// 512 corners and 513, and what comes behind the last.
+fn many_corners() {
+    let mut line = build::room();
+    let n = build::corners(&mut line, 512, b"0 0))");
+    named(b"512 corners, all the same", front(&line, n));
+    let n = build::corners(&mut line, 513, b"0 0))");
+    named(b"513 corners", front(&line, n));
+    let n = build::corners(&mut line, 513, b"0 0) )");
+    named(
+        b"513 corners, and a space before the last parenthesis",
+        front(&line, n),
+    );
+    let n = build::corners(&mut line, 513, b"0 1))");
+    named(b"513 corners, and another closing point", front(&line, n));
+    let n = build::stairs(&mut line);
+    named(b"stairs of 512 corners", front(&line, n));
+}
+
+fn main() {
+    text(b"Filled\n");
+    filled();
+    text(b"Refused\n");
+    refused();
+    text(b"Not in form\n");
+    points_not_in_form();
+    rest_not_in_form();
+    text(b"Long lines\n");
+    long_numbers();
+    many_corners();
+}
