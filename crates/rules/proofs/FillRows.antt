@@ -1,8 +1,7 @@
 -- The rows of filling a line: what they leave where none applies, and that the cutter's rows say the same of the coordinates that were read.
 use Prim.Native.Nat.{ℕ, _*_, _-_, _/_, _%_, _≤_, _<_}
 use mathlib.Core.Path.{_≡_, refl, sym, _∙_, ap, ap₂}
-use mathlib.Core.Logic.{_≢_}
-use mathlib.Core.Bool.{Bool, true, false}
+use mathlib.Core.Bool.{Bool, false}
 use mathlib.Core.List.{List, [], _∷_, _++_, append-assoc}
 use native.Mathlib.Omega.{arith}
 use native.Mathlib.Nat.{mul-mod-right, mul-div-cancel-left}
@@ -29,7 +28,7 @@ even n = rw (mul-mod-right 2 n)
 
 -- ---- what they leave
 
-pub grid-front : (corners : List Pt) → Front (countChecks 3 mostPoints (2 * length corners)) (offCorners corners gives 4 ∷ []) (beforeRing corners)
+grid-front : (corners : List Pt) → Front (countChecks 3 mostPoints (2 * length corners)) (offCorners corners gives 4 ∷ []) (beforeRing corners)
 unfolding countChecks beforeRing
 grid-front corners = record { whole = refl; numbered = refl }
 
