@@ -1,13 +1,14 @@
 -- Lines of text: at most one list of corners fits a line, and at most one list of rings.
-use Prim.Native.Nat.{ℕ, _≤_}
+use Prim.Native.Nat.{ℕ, _≤_, _<_}
 use native.Mathlib.Omega.{arith}
 use mathlib.Core.Path.{_≡_, refl, sym, ap, ap₂, _∙_}
+use mathlib.Core.Logic.{_≢_}
 use mathlib.Core.List.{List, [], _∷_, _++_, map, append-assoc, append-nil}
 use lib.ListN.{length, take, getD, length-append}
 use lib.Seq.{take-at}
 use lib.IntN.{ℤ, pos, negsuc}
 use Rattle.rules.specs.Plane.{Pt}
-use Rattle.rules.specs.Text.{decimal, pointText, behind, parted, ringText, polygonLine, areaText, multipolygonLine, InForm, Ends}
+use Rattle.rules.specs.Text.{decimal, pointText, behind, parted, ringText, polygonLine, areaText, multipolygonLine, mostBytes, InForm, NotInForm, Ends}
 use Rattle.rules.proofs.TextNumbers.{at-first, decimal-parse, starts}
 
 -- ---- points
@@ -123,6 +124,18 @@ line-splits c cs = ap (λ (l : List ℕ). 80 ∷ 79 ∷ 76 ∷ 89 ∷ 71 ∷ 79 
 pub polygon-injective : (cs ds : List Pt) → polygonLine cs ≡ polygonLine ds → cs ≡ ds
 unfolding polygonLine
 polygon-injective cs ds h = ring-parse cs ds (41 ∷ []) (41 ∷ []) (cc) .0
+
+-- the writing of some corners is in form, if it is not too long
+pub form-of : (cs : List Pt) → cs ≢ [] → length (polygonLine cs) ≤ mostBytes → InForm (polygonLine cs) cs
+form-of cs some short = record { written = refl; some-corner = some; short = short }
+
+-- a line in form has a corner
+pub no-corner : {line : List ℕ} → InForm line [] → ⊥
+no-corner f = f .some-corner refl
+
+pub too-long : (line : List ℕ) → mostBytes < length line → NotInForm line
+unfolding NotInForm
+too-long line h corners f = omega (arith, f .short)
 
 -- at most one list of corners fits a line
 pub in-form-one : (line : List ℕ) (cs ds : List Pt) → InForm line cs → InForm line ds → cs ≡ ds

@@ -21,7 +21,7 @@ use Rattle.rules.proofs.Outlines.{Outlined, outline-none}
 use Rattle.rules.proofs.FillRows.{even}
 use Rattle.rules.proofs.Answers.{writing-number, writing-answered}
 use Rattle.rules.proofs.Layouts.{take-over}
-use Rattle.rules.proofs.TextLines.{in-form-one, written-back}
+use Rattle.rules.proofs.TextLines.{form-of, in-form-one, written-back}
 use Rattle.entries.specs.declared.Answer.{Answer}
 use Rattle.wkt.specs.Promise.{readingOf, PolygonPromise}
 use Rattle.wkt.proofs.Corners.{off-grid-read, points-read, coordinates-length}
@@ -46,11 +46,9 @@ module _ {cs : List Float} {out text : List ℕ} {s : Answer} (wrote : PolygonPr
 
     -- it is a line in form, whose corners are the points
     pub written-in-form : InForm (take (s .count) text) (pointsOf cs)
-    written-in-form = record {
-      written = written-text;
-      some-corner = λ e. omega (arith, accepted cs out none .at-least, ap length e);
-      short = omega (arith, ap length written-text, short cs out none, accepted cs out none .at-most);
-    }
+    written-in-form =
+        let a = accepted cs out none in
+        rw written-text (form-of (pointsOf cs) (λ e. omega (arith, a .at-least, ap length e)) (omega (arith, short cs out none, a .at-most)))
 
 -- ---- what was read, written again
 

@@ -9,7 +9,7 @@ use lib.ListN.{length, take}
 use lib.Ieee.{Float}
 use Rattle.algebra.specs.Lists.{countFrom}
 use Rattle.algebra.proofs.Lists.{each-imp}
-use Rattle.algebra.proofs.Equal.{ltb-false}
+use borrow.Author.Tests.{ltb-false}
 use Rattle.algebra.proofs.Counting.{count-take, count-within, count-length}
 use Rattle.rules.specs.Limits.{mostPoints}
 use Rattle.rules.specs.Plane.{Pt}
