@@ -1,10 +1,10 @@
--- Tests as equations of their flag: equality and order of naturals, conjunction, disjunction and negation.
-use Prim.Native.Nat.{ℕ, _≤_, _<_}
+-- Tests as equations of their flag: equality of naturals, conjunction, disjunction and negation.
+use Prim.Native.Nat.{ℕ}
 use mathlib.Core.Path.{_≡_, refl, sym, subst}
 use mathlib.Core.Logic.{_≢_}
 use mathlib.Core.Bool.{Bool, true, false, not, _&&_, _||_}
 use native.Mathlib.Omega.{arith}
-use lib.Dec.{T, eqb, eqb→eq, eqb-refl, ltb, ltb→lt, nltb→le}
+use lib.Dec.{T, eqb, eqb→eq, eqb-refl}
 
 -- two constructors are never equal: `impossible (cc)` where a hypothesis says that they are
 pub impossible : {X : Type 0} → _≡_ {A = ℕ} 0 1 → X
@@ -46,9 +46,3 @@ not-false false e = sym e
 pub or-false : (a b : Bool) → (a || b) ≡ false → (a ≡ false) × (b ≡ false)
 or-false true b e = impossible (cc)
 or-false false b e = (refl, e)
-
-pub ltb-is-true : (m n : ℕ) → ltb m n ≡ true → m < n
-ltb-is-true m n e = ltb→lt m n (subst T (sym e) tt)
-
-pub ltb-false : (m n : ℕ) → ltb m n ≡ false → n ≤ m
-ltb-false m n e = nltb→le m n (subst (λ (b : Bool). T (not b)) (sym e) tt)

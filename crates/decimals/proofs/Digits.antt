@@ -12,11 +12,11 @@ use Rattle.rules.specs.Limits.{gridEdge}
 use Rattle.rules.specs.Text.{digit, natural, Digit, Ends}
 use Rattle.rules.proofs.TextNumbers.{Numeral, small, more, spelled, natural-one, starts, starts-above}
 use Rattle.decimals.specs.Reads.{DigitAt, NaturalAt, NoNatural}
-use Rattle.decimals.proofs.Places.{past, ends-at, next, first-is}
+use Rattle.decimals.proofs.Places.{byte-inside, ends-at, next, first-is}
 
 pub digit-there : (line : List ℕ) (i b v : ℕ) → b ≡ getD line i 0 → v ≡ b → digit 0 ≤ b → b ≤ digit 9 → DigitAt line i (v - 48)
 digit-there line i b v e w p q =
-    let inside : i < length line = lt-of-not-le (λ k. omega (arith, past line i k)) in
+    let inside : i < length line = byte-inside line i b (sym e) (omega arith) in
     record { small = omega arith; found = λ h. omega arith; inside = λ h. inside; nowhere = λ h d. omega arith }
 
 below : {line : List ℕ} {i d : ℕ} → DigitAt line i d → d ≢ 10 → d < 10

@@ -2,7 +2,6 @@ pub mod Flags
 pub mod Places
 pub mod Digits
 pub mod Numbers
-pub mod Values
 pub mod Floats
 pub mod Texts
 pub mod NumberTexts

@@ -7,13 +7,13 @@ use native.Mathlib.Nat.{mul-one, mul-assoc, mul-comm, mul-right-comm, mul-mul-mu
 use native.Mathlib.Omega.{arith}
 use mathlib.Core.Logic.{_⊎_, inl, inr}
 use mathlib.Core.Bool.{Bool, true, false, not, cond, _&&_}
-use lib.Dec.{eqb, ltb, leb·suc-suc, leb·suc-zero}
+use lib.Dec.{T, eqb, ltb, le→leb, leb·suc-suc, leb·suc-zero}
 use lib.IntN.{ℤ, pos, negsuc, negℤ, natAbs, _+ℤ_, _-ℤ_, _*ℤ_}
 use lib.Signed.{ltZ}
-use lib.Ieee.{Float, nan, inf, fin, Format, prec, up, down, unlike, below, round, sum, add, sub, neg, mul, div, lt, ofInt}
+use lib.Ieee.{Float, nan, inf, fin, Format, binary32, prec, up, down, unlike, below, round, sum, add, sub, neg, mul, div, lt, ofInt, inFloat, inUnsigned, toUnsigned}
 use lib.Ieee.Fits.{down-pos}
 use lib.Ieee.Exact.{HasValue}
-use lib.Ieee.Back.{round-whole}
+use lib.Ieee.Back.{round-whole, unsigned-back}
 use lib.Ieee.Scale.{round-same}
 use borrow.Author.Tests.{ltb-true, ltb-false, lt-ltb, le-ltb, ne-eqb}
 use Rattle.algebra.proofs.Sizes.{natAbs-sub, natAbs-mul}
@@ -201,6 +201,15 @@ unfoldable pub ofInt-is : (f : Format) (z : ℤ) → natAbs z ≤ 2 ^ prec f →
 unfolding ofInt
 ofInt-is f (pos n) h = record { s = false; n = n; value = round-whole f false n h; whole = refl }
 ofInt-is f (negsuc n) h = record { s = true; n = suc n; value = round-whole f true (suc n) h; whole = refl }
+
+-- the test that a conversion to a float asks for
+pub in-float : (f : Format) (n : ℕ) → n ≤ 2 ^ prec f → T (inFloat f (pos n))
+unfolding inFloat
+in-float f n h = le→leb n (2 ^ prec f) h
+
+-- and back
+pub whole-back : (x : Float) (n : ℕ) → x ≡ ofInt binary32 (pos n) → n ≤ 2 ^ 24 → T (inUnsigned binary32 32 x) × (toUnsigned 32 x ≡ n)
+whole-back x n e h = let w : n < 2 ^ 32 = omega arith in rw e (unsigned-back binary32 32 n (in-float binary32 n h) w)
 
 neg-value : (x : Float) (s : Bool) (n : ℕ) → HasValue x s n 1 → HasValue (neg x) (not s) n 1
 unfolding neg

@@ -1,27 +1,20 @@
 -- The square of a vector's length as a whole number: it is at most 2 ^ 23, and its float turns back into it.
 use mathlib.Core.Bool.{true, false}
 use mathlib.Core.Path.{_≡_, sym, ap, _∙_}
-use Prim.Native.Nat.{ℕ, _^_, _≤_, _<_}
+use Prim.Native.Nat.{_^_, _≤_}
 use native.Mathlib.Omega.{arith}
 use lib.Dec.{T}
 use lib.IntN.{pos, natAbs}
 use lib.Ieee.{Float, fin, binary32, add, mul, div, ofInt, inUnsigned, toUnsigned}
-use lib.Ieee.Back.{unsigned-back}
 use Rattle.rules.specs.Root.{root, reciprocal, pointiness}
 use Rattle.rules.specs.Plane.{Pt, minus}
 use Rattle.rules.proofs.GridSizes.{Side, side, squareOf, square-own, square-small}
 use Rattle.rules.proofs.Pointiness.{reciprocal-is, pointiness-is}
 use Rattle.grid.specs.declared.point.Point.{Point}
 use Rattle.grid.specs.Points.{onGridPt, ptOf}
+use Rattle.grid.proofs.Value.{whole-back}
 use Rattle.grid.proofs.Turn.{grid-point}
 use Rattle.grid.proofs.Sides.{side-squares}
-use Rattle.root.proofs.Quotient.{in-float}
-
-back : (x : Float) (n : ℕ) → x ≡ ofInt binary32 (pos n) → n ≤ 2 ^ 23 → T (inUnsigned binary32 32 x) × (toUnsigned 32 x ≡ n)
-back x n e h =
-    let w : n < 2 ^ 32 = omega arith in
-    let i : n ≤ 2 ^ 24 = omega arith in
-    rw e (unsigned-back binary32 32 n (in-float binary32 n i) w)
 
 -- ---- a vector between grid points: the square of its length, and that its float turns back into it
 
@@ -36,7 +29,7 @@ pub radicand-back :
     → x ≡ add binary32 (mul binary32 dx dx) (mul binary32 dy dy) → T (inUnsigned binary32 32 x) × (toUnsigned 32 x ≡ natAbs (squareOf (minus (ptOf q) (ptOf p))))
 radicand-back q p {x} g h i j e =
     let d = minus (ptOf q) (ptOf p) in
-    back x (natAbs (squareOf d)) (e ∙ side-squares (side-of q p g h) i j ∙ ap (ofInt binary32) (square-own d)) (radicand-small q p g h)
+    whole-back x (natAbs (squareOf d)) (e ∙ side-squares (side-of q p g h) i j ∙ ap (ofInt binary32) (square-own d)) (omega (arith, radicand-small q p g h))
 
 -- ---- what the rules make of the root of it
 

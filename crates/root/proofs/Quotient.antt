@@ -3,10 +3,9 @@ use mathlib.Core.Path.{_≡_, sym, _∙_}
 use Prim.Native.Nat.{ℕ, _*_, _%_, _^_, _≤_, _<_}
 use native.Mathlib.Omega.{arith}
 use mathlib.Core.Bool.{false}
-use lib.Dec.{T, le→leb}
 use lib.IntN.{pos}
 use lib.Pow.{pow-pos, pow-mono}
-use lib.Ieee.{Format, binary32, prec, round, div, ofInt, inFloat}
+use lib.Ieee.{binary32, round, div, ofInt}
 use lib.Ieee.Exact.{HasValue}
 use lib.Ieee.Back.{round-whole}
 use Rattle.rules.specs.Root.{IsRoot, Scaled, Nearest, root}
@@ -14,10 +13,6 @@ use Rattle.rules.proofs.Root.{sentence, root-is}
 use Rattle.rules.proofs.Scale.{scale-high}
 use Rattle.grid.proofs.Value.{div-at}
 use Rattle.root.proofs.Shift.{one-shl}
-
-pub in-float : (f : Format) (n : ℕ) → n ≤ 2 ^ prec f → T (inFloat f (pos n))
-unfolding inFloat
-in-float f n h = le→leb n (2 ^ prec f) h
 
 whole : (n : ℕ) → n ≤ 2 ^ 24 → HasValue (ofInt binary32 (pos n)) false n 1
 unfolding ofInt

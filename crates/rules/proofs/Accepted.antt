@@ -11,7 +11,8 @@ use lib.Ieee.{Float}
 use Rattle.algebra.specs.Lists.{Each, end, _&_, any, countFrom}
 use Rattle.algebra.specs.Rings.{Corner, steps, edges}
 use Rattle.algebra.proofs.Lists.{each-imp, none-passes}
-use Rattle.algebra.proofs.Equal.{impossible, eqb-true, not-false, or-false, ltb-false, ltb-is-true}
+use borrow.Author.Tests.{ltb-true, ltb-false}
+use Rattle.algebra.proofs.Equal.{impossible, eqb-true, not-false, or-false}
 use Rattle.rules.specs.Limits.{mostPoints, mostTriangles}
 use Rattle.rules.specs.Plane.{Pt, point, same}
 use Rattle.rules.specs.Grid.{pointsOf}
@@ -170,7 +171,7 @@ module _ (cs : List Float) (triangles : List ℕ) (room roomForLengths : ℕ) wh
         outlines = outlined 0 mostPoints cs first;
         whole = whole;
         few = few;
-        below = each-imp (λ i h. ltb-is-true i points (not-false (ltb i points) h)) (none-passes (λ i. not (ltb i points)) triangles out);
+        below = each-imp (λ i h. ltb-true i points (not-false (ltb i points) h)) (none-passes (λ i. not (ltb i points)) triangles out);
         fits = ltb-false room n s;
         fits-lengths = ltb-false roomForLengths (n / 3) t;
       }

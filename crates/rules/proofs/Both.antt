@@ -11,7 +11,7 @@ use lib.Dec.{eqb, ltb, lit<}
 use lib.ListN.{length, take}
 use lib.Ieee.{Float}
 use Rattle.algebra.specs.Lists.{Each, end, _&_, countFrom}
-use Rattle.algebra.proofs.Lists.{each-++, each-map, each-head}
+use Rattle.algebra.proofs.Lists.{each-head}
 use Rattle.algebra.specs.Sums.{total, integers, naturals}
 use Rattle.algebra.specs.Rings.{Corner, ringOf, lastOf}
 use Rattle.rules.specs.Limits.{mostPoints, mostTriangles}
@@ -25,7 +25,7 @@ use Rattle.rules.specs.Entries.{trianglesFor, cutter, merger, writtenTri
 use Rattle.rules.specs.Measure.{points, area2, NotRight, NotClockwise, NoneRight}
 use Rattle.rules.proofs.Ears.{cut-not-right}
 use Rattle.rules.proofs.Pieces.{merge-no-right}
-use Rattle.rules.proofs.Outline.{cut-count, cut-indices}
+use Rattle.rules.proofs.Outline.{cut-count}
 use Rattle.rules.proofs.Layouts.{flat-each, triangles-length, triangles-back}
 use Rattle.rules.proofs.Rows.{row-off, no-rows, front-none, others-decide}
 use Rattle.rules.proofs.Fronts.{seven-front, list-front, triangles-front}
@@ -68,7 +68,7 @@ last-ring c [] = refl
 last-ring c (t ∷ ts) = last-ring t ts
 
 -- where the last triangle of a cut is not clockwise, none turns right
-pub none-right : (ps : List Pt) (ts : List (Corner ℕ)) → cut ps ≡ done ts → NotClockwise ps (lastOf [] (map ringOf ts)) → Each (NotRight ps) ts
+none-right : (ps : List Pt) (ts : List (Corner ℕ)) → cut ps ≡ done ts → NotClockwise ps (lastOf [] (map ringOf ts)) → Each (NotRight ps) ts
 unfolding cut
 none-right ps [] e h = end
 none-right ps (c ∷ ts) e h =

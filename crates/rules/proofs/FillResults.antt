@@ -1,9 +1,9 @@
 -- What comes back of a line that is filled: its number and the order of refusals; and demand 3 read over the text that was written.
-use Prim.Native.Nat.{ℕ, _+_, _*_, _-_, _/_, _%_, _≤_, _<_}
+use Prim.Native.Nat.{ℕ, _-_, _≤_}
 use mathlib.Core.Path.{_≡_, refl, sym, _∙_, ap, ap₂, subst}
 use mathlib.Core.Logic.{_≢_}
 use mathlib.Core.Bool.{Bool, true, false}
-use mathlib.Core.List.{List, [], _∷_, _++_, map, List·Memᴰ, List·Memᴰ·head, List·Memᴰ·tail, List·Memᴰ·cases-cons}
+use mathlib.Core.List.{List, [], _∷_, map, List·Memᴰ, List·Memᴰ·head, List·Memᴰ·tail}
 use native.Mathlib.Omega.{arith}
 use borrow.Author.Tests.{le-ltb}
 use lib.Dec.{ltb}
@@ -16,14 +16,14 @@ use Rattle.rules.specs.Limits.{mostPoints}
 use Rattle.rules.specs.Plane.{Pt, point}
 use Rattle.rules.specs.Crossing.{odd, oddCrossings}
 use Rattle.rules.specs.Layout.{over}
-use Rattle.rules.specs.Refusals.{Row, _gives_, firstRefusal, noEar, equalNeighbours, countChecks, ringChecks}
+use Rattle.rules.specs.Refusals.{_gives_, firstRefusal, noEar, equalNeighbours, countChecks}
 use Rattle.rules.specs.Measure.{points, area2}
 use Rattle.rules.specs.Text.{InForm, NotInForm, multipolygonLine}
-use Rattle.rules.specs.Lines.{Answers, in-form, not-in-form, Writing, writing, fillRoom, beforeRing, fillChecks, filler, Fills}
-use Rattle.rules.proofs.Rows.{row-off, passes, numberOf, given-number, front-skips, others-decide}
+use Rattle.rules.specs.Lines.{in-form, not-in-form, Writing, writing, fillRoom, beforeRing, fillChecks, filler, Fills}
+use Rattle.rules.proofs.Rows.{row-off, given-number, front-skips, others-decide}
 use Rattle.rules.proofs.Answers.{over-beyond, writing-number, writing-answered, writing-refused}
 use Rattle.rules.proofs.Layouts.{take-over}
-use Rattle.rules.proofs.TextLines.{in-form-one, multipolygon-injective}
+use Rattle.rules.proofs.TextLines.{multipolygon-injective}
 use Rattle.rules.proofs.LineAnswers.{answer-of, eleven-of}
 use Rattle.rules.proofs.FillRows.{even, sound, corners-front, filled}
 use Rattle.rules.proofs.Plans.{Plan, Plans}

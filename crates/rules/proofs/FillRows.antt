@@ -1,17 +1,15 @@
 -- The rows of filling a line: what they leave where none applies, and that the cutter's rows say the same of the coordinates that were read.
 use Prim.Native.Nat.{ℕ, _*_, _-_, _/_, _%_, _≤_, _<_}
 use mathlib.Core.Path.{_≡_, refl, sym, _∙_, ap, ap₂}
-use mathlib.Core.Logic.{_≢_}
-use mathlib.Core.Bool.{Bool, true, false}
+use mathlib.Core.Bool.{Bool, false}
 use mathlib.Core.List.{List, [], _∷_, _++_, append-assoc}
 use native.Mathlib.Omega.{arith}
 use native.Mathlib.Nat.{mul-mod-right, mul-div-cancel-left}
 use native.Mathlib.Decide.{ℕ-discrete}
-use borrow.Author.Tests.{lt-ltb, le-ltb}
+use borrow.Author.Tests.{ltb-false, lt-ltb, le-ltb}
 use lib.Dec.{eqb, ltb, lit<}
 use lib.ListN.{length}
 use lib.Ieee.{Float}
-use Rattle.algebra.proofs.Equal.{ltb-false}
 use Rattle.rules.specs.Limits.{mostPoints}
 use Rattle.rules.specs.Plane.{Pt}
 use Rattle.rules.specs.Grid.{pointsOf}
@@ -29,7 +27,7 @@ even n = rw (mul-mod-right 2 n)
 
 -- ---- what they leave
 
-pub grid-front : (corners : List Pt) → Front (countChecks 3 mostPoints (2 * length corners)) (offCorners corners gives 4 ∷ []) (beforeRing corners)
+grid-front : (corners : List Pt) → Front (countChecks 3 mostPoints (2 * length corners)) (offCorners corners gives 4 ∷ []) (beforeRing corners)
 unfolding countChecks beforeRing
 grid-front corners = record { whole = refl; numbered = refl }
 

@@ -8,7 +8,8 @@ use lib.Dec.{eqb, ltb}
 use lib.Ieee.{Float, nan, inf, fin, up, down, below, level, le, isNan}
 use lib.Ieee.Fits.{down-pos}
 use lib.Ieee.Positive.{through}
-use Rattle.algebra.proofs.Equal.{impossible, eqb-same, eqb-true, ltb-is-true, ltb-false, or-false}
+use borrow.Author.Tests.{ltb-true, ltb-false}
+use Rattle.algebra.proofs.Equal.{impossible, eqb-same, eqb-true, or-false}
 
 -- ---- sizes with their signs, true for minus
 
@@ -28,7 +29,7 @@ same-passed a b true z same h = omega (arith, same refl)
 same-passed a b false z same h = go (ltb a b) refl h
   where
     go : (t : Bool) → ltb a b ≡ t → (t || false) ≡ true → a ≤ b
-    go true q h = omega (arith, ltb-is-true a b q)
+    go true q h = omega (arith, ltb-true a b q)
     go false q h = impossible (cc)
 
 same-le : (a b : ℕ) (e z : Bool) → (a ≡ b → e ≡ true) → a ≤ b → (ltb a b || (e && (true || z))) ≡ true

@@ -1,7 +1,7 @@
 -- What comes back of a line: one result at most; and what the reader gives back, by its refusals.
 use Prim.Native.Nat.{ℕ, _*_, _≤_, _<_}
 use native.Mathlib.Omega.{arith}
-use mathlib.Core.Path.{_≡_, sym, ap, _∙_}
+use mathlib.Core.Path.{_≡_, refl, sym, ap, _∙_}
 use mathlib.Core.Logic.{_≢_}
 use mathlib.Core.List.{List}
 use lib.ListN.{length}
@@ -12,7 +12,7 @@ use Rattle.rules.specs.Plane.{Pt}
 use Rattle.rules.specs.Layout.{over}
 use Rattle.rules.specs.Refusals.{firstRefusal}
 use Rattle.rules.specs.Text.{InForm, NotInForm}
-use Rattle.rules.specs.Lines.{Answers, in-form, not-in-form, coordinates, readerChecks, reader}
+use Rattle.rules.specs.Lines.{Answers, in-form, not-in-form, coordinates, readerChecks, reader, Reads}
 use Rattle.rules.proofs.Rows.{row-on, row-off, no-rows}
 use Rattle.rules.proofs.Answers.{unless-answered, unless-refused}
 use Rattle.rules.proofs.TextLines.{in-form-one}
@@ -35,6 +35,9 @@ answers-one a (in-form {corners = corners} form e) = answer-of a corners form �
 answers-one a (not-in-form h e) = eleven-of a h ∙ sym e
 
 -- ---- the reader
+
+pub reads-not : (line : List ℕ) (coords : List Float) → NotInForm line → Reads line coords (record { number = 11; count = 0; coords = coords })
+reads-not line coords h = not-in-form h refl
 
 module _ (coords : List Float) (corners : List Pt) where
   refused : (n : ℕ) → firstRefusal (readerChecks corners (length coords)) ≡ n → n ≢ 0 → reader coords corners ≡ record { number = n; count = 0; coords = coords }

@@ -4,11 +4,10 @@ use mathlib.Core.Path.{_≡_, refl, sym, _∙_}
 use mathlib.Core.Bool.{false}
 use mathlib.Core.List.{List, []}
 use native.Mathlib.Omega.{arith}
-use borrow.Author.Tests.{le-ltb, eqb-false}
+use borrow.Author.Tests.{ltb-false, le-ltb, eqb-false}
 use lib.Dec.{eqb, ltb}
 use lib.ListN.{length}
 use lib.Ieee.{Float}
-use Rattle.algebra.proofs.Equal.{ltb-false}
 use Rattle.rules.specs.Limits.{gridEdge, mostPoints, mostCoordinates, mostTriangles, mostIndices}
 use Rattle.rules.specs.Grid.{pointsOf}
 use Rattle.rules.specs.Refusals.{firstRefusal, offGrid, countChecks, outlineChecks}

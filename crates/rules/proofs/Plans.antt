@@ -1,10 +1,10 @@
 -- What the plans of an accepted outline keep of it: its triangles, and the areas that these are merged into.
 use Prim.Native.Nat.{ℕ, _-_, _≤_, _<_}
-use mathlib.Core.Path.{_≡_, refl, sym, _∙_, ap, subst}
+use mathlib.Core.Path.{_≡_, refl, sym, _∙_, subst}
 use mathlib.Core.List.{List, [], _∷_, map}
 use native.Mathlib.Omega.{arith}
 use lib.Dec.{lit≤}
-use lib.ListN.{length, length-map}
+use lib.ListN.{length}
 use Rattle.algebra.specs.Lists.{Each}
 use Rattle.algebra.proofs.Lists.{each-all, each-map}
 use Rattle.algebra.specs.Sums.{total, integers, naturals}
@@ -67,7 +67,3 @@ triangles-plan ps room a = subst (Plan ps) (sym (triangles-are a)) (cut-plan ps 
 pub areas-plan : Plans areasFor
 unfolding areasFor
 areas-plan ps room a = merged-plan (mayJoin ps) (triangles-plan ps room a)
-
--- n - 2 triangles for n corners
-pub triangles-count : {ps : List Pt} {room : ℕ} → Accepted ps room → length (trianglesFor ps) ≡ length ps - 2
-triangles-count {ps} a = ap length (triangles-are a) ∙ length-map (a .triangles) ringOf ∙ cut-count ps (a .triangles) (a .three) (a .is-cut)

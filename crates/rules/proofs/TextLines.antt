@@ -1,21 +1,19 @@
 -- Lines of text: at most one list of corners fits a line, and at most one list of rings.
-use Prim.Native.Nat.{ℕ, _≤_}
+use Prim.Native.Nat.{ℕ, _≤_, _<_}
 use native.Mathlib.Omega.{arith}
 use mathlib.Core.Path.{_≡_, refl, sym, ap, ap₂, _∙_}
+use mathlib.Core.Logic.{_≢_}
 use mathlib.Core.List.{List, [], _∷_, _++_, map, append-assoc, append-nil}
-use lib.ListN.{length, getD}
+use lib.ListN.{length, take, getD, length-append}
+use lib.Seq.{take-at}
 use lib.IntN.{ℤ, pos, negsuc}
 use Rattle.rules.specs.Plane.{Pt}
-use Rattle.rules.specs.Text.{decimal, pointText, behind, parted, ringText, polygonLine, areaText, multipolygonLine, InForm, Ends}
-use Rattle.rules.proofs.TextNumbers.{decimal-parse, starts}
-
--- the first byte
-at-first : {l m : List ℕ} → l ≡ m → getD l 0 0 ≡ getD m 0 0
-at-first e = ap (λ (l : List ℕ). getD l 0 0) e
+use Rattle.rules.specs.Text.{decimal, pointText, behind, parted, ringText, polygonLine, areaText, multipolygonLine, mostBytes, InForm, NotInForm, Ends}
+use Rattle.rules.proofs.TextNumbers.{at-first, decimal-parse, starts}
 
 -- ---- points
 
-pub decimal-first : (z : ℤ) (r : List ℕ) → 45 ≤ getD (decimal z ++ r) 0 0
+decimal-first : (z : ℤ) (r : List ℕ) → 45 ≤ getD (decimal z ++ r) 0 0
 unfolding decimal
 decimal-first (pos n) r = omega (arith, starts n r)
 decimal-first (negsuc n) r = omega arith
@@ -83,17 +81,14 @@ unfolding ringText parted
 ring-splits c cs t = simp append-assoc
 
 snoc-first : {A : Type 0} (a b : A) (l m : List A) → l ++ (a ∷ []) ≡ m ++ (b ∷ []) → l ≡ m
-snoc-first a b [] [] e = refl
-snoc-first a b [] (d ∷ []) e = absurd (omega (arith, ap length e))
-snoc-first a b [] (d ∷ c ∷ m) e = absurd (omega (arith, ap length e))
-snoc-first a b (d ∷ []) [] e = absurd (omega (arith, ap length e))
-snoc-first a b (d ∷ c ∷ l) [] e = absurd (omega (arith, ap length e))
-snoc-first a b (c ∷ l) (d ∷ m) e = ap₂ _∷_ (cc) (snoc-first a b l m (cc))
+snoc-first a b l m e =
+    let n : length l ≡ length m = omega (arith, ap length e, length-append l (a ∷ []), length-append m (b ∷ [])) in
+    sym (take-at l (a ∷ []) (length m) n) ∙ ap (take (length m)) e ∙ take-at m (b ∷ []) (length m) refl
 
-pub no-point : (p : Pt) (r s : List ℕ) → 41 ∷ s ≡ pointText p ++ r → ⊥
+no-point : (p : Pt) (r s : List ℕ) → 41 ∷ s ≡ pointText p ++ r → ⊥
 no-point p r s h = omega (arith, at-first (h ∙ point-splits p r), decimal-first (p .x) (32 ∷ (decimal (p .y) ++ r)))
 
-pub ring-parse : (cs ds : List Pt) (s t : List ℕ) → ringText cs ++ s ≡ ringText ds ++ t → (cs ≡ ds) × (s ≡ t)
+ring-parse : (cs ds : List Pt) (s t : List ℕ) → ringText cs ++ s ≡ ringText ds ++ t → (cs ≡ ds) × (s ≡ t)
 unfolding ringText
 ring-parse [] [] s t h = (refl, cc)
 ring-parse [] (d ∷ ds) s t h = let k = h ∙ ring-splits d ds t in absurd (no-point d (behind (map pointText (ds ++ (d ∷ []))) ++ (41 ∷ t)) s (cc))
@@ -129,6 +124,18 @@ line-splits c cs = ap (λ (l : List ℕ). 80 ∷ 79 ∷ 76 ∷ 89 ∷ 71 ∷ 79 
 pub polygon-injective : (cs ds : List Pt) → polygonLine cs ≡ polygonLine ds → cs ≡ ds
 unfolding polygonLine
 polygon-injective cs ds h = ring-parse cs ds (41 ∷ []) (41 ∷ []) (cc) .0
+
+-- the writing of some corners is in form, if it is not too long
+pub form-of : (cs : List Pt) → cs ≢ [] → length (polygonLine cs) ≤ mostBytes → InForm (polygonLine cs) cs
+form-of cs some short = record { written = refl; some-corner = some; short = short }
+
+-- a line in form has a corner
+pub no-corner : {line : List ℕ} → InForm line [] → ⊥
+no-corner f = f .some-corner refl
+
+pub too-long : (line : List ℕ) → mostBytes < length line → NotInForm line
+unfolding NotInForm
+too-long line h corners f = omega (arith, f .short)
 
 -- at most one list of corners fits a line
 pub in-form-one : (line : List ℕ) (cs ds : List Pt) → InForm line cs → InForm line ds → cs ≡ ds

@@ -1,5 +1,5 @@
 -- Request M-101's example and what stands beside it, as one table: writings byte for byte, and what reading, writing and filling give back.
-use Prim.Native.Nat.{ℕ, _+_, _-_}
+use Prim.Native.Nat.{ℕ, _-_}
 use Prim.Native.String.{String}
 use mathlib.Core.Path.{_≡_}
 use mathlib.Core.Bool.{true}
@@ -10,10 +10,12 @@ use lib.Ieee as Ieee
 use lib.Ieee.{Float, fin, binary32}
 use Rattle.rules.specs.Plane.{Pt}
 use Rattle.rules.specs.Entries.{trianglesFor}
-use Rattle.rules.specs.Text.{bytes, decimal, polygonLine, multipolygonLine, firstLine}
+use Rattle.rules.specs.Text.{bytes, decimal, polygonLine, multipolygonLine, mostBytes, firstLine}
 use Rattle.rules.specs.Lines.{Reading, reader, Writing, polygonWriter, areasFor, filler}
 
 pub data TextCase : Type 0 where
+  -- the most bytes of a line in form
+  longest : ℕ → TextCase
   writes-number : ℤ → String → TextCase
   writes-polygon : List Pt → String → TextCase
   writes-multipolygon : List (List Pt) → String → TextCase
@@ -24,6 +26,7 @@ pub data TextCase : Type 0 where
   filling-triangles : List ℕ → List Pt → Writing → TextCase
 
 abbrev pub TextHolds : TextCase → Type 0
+TextHolds (longest n) = mostBytes ≡ n
 TextHolds (writes-number z text) = decimal z ≡ bytes text
 TextHolds (writes-polygon corners text) = polygonLine corners ≡ bytes text
 TextHolds (writes-multipolygon rings text) = multipolygonLine rings ≡ bytes text
@@ -98,7 +101,8 @@ writes-not cs room number = writing cs (nines room) (record { number = number; c
 
 abbrev pub text-table : List TextCase
 text-table =
-    writes-number (pos 0) "0"
+    longest 8192
+    ∷ writes-number (pos 0) "0"
     ∷ writes-number (pos 7) "7"
     ∷ writes-number (pos 10) "10"
     ∷ writes-number (negsuc 0) "-1"
@@ -138,6 +142,7 @@ text-table =
     ∷ writes-not (f 2000 ∷ []) 0 1
     ∷ writes-not [] 0 2
     ∷ writes-not (replicate 1026 (f 2000)) 0 3
+    ∷ writes-not (replicate 1024 (f 2000)) 0 4
     ∷ writes-not (f 0 ∷ f 1025 ∷ []) 0 4
     ∷ writes-not (f 0 ∷ f 0 ∷ []) 35 6
     -- the line among what is read

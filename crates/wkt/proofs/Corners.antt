@@ -3,7 +3,7 @@ use Prim.Native.Nat.{ℕ, suc, _+_, _*_, _/_, _%_, _≤_, _<_, min}
 use native.Mathlib.Nat.{mul-one, mul-mod-left, mul-div-left}
 use native.Mathlib.Omega.{arith}
 use mathlib.Core.Path.{_≡_, refl, sym, ap, ap₂, _∙_}
-use mathlib.Core.Bool.{Bool, true, false, not, _&&_, _||_}
+use mathlib.Core.Bool.{Bool, true, false, not, _&&_, _||_, or-assoc}
 use mathlib.Core.List.{List, [], _∷_}
 use lib.Dec.{leb}
 use lib.ListN.{length}
@@ -11,13 +11,14 @@ use lib.IntN.{ℤ, pos, negsuc, negℤ, natAbs}
 use lib.Ieee.{Float, nan, inf, fin, binary32, up, down}
 use lib.Ieee.Fits.{down-pos}
 use borrow.Author.Tests.{eq-eqb, le-leb, lt-leb, leb-true, leb-false}
-use Rattle.algebra.proofs.Equal.{or-false, not-false}
+use Rattle.algebra.specs.Lists.{Each, end, _&_}
 use Rattle.rules.specs.Limits.{gridEdge}
 use Rattle.rules.specs.Plane.{Pt}
 use Rattle.rules.specs.Grid.{signed, wholeOf, onGrid, pointsOf}
 use Rattle.rules.specs.Refusals.{offGrid}
-use Rattle.rules.specs.Lines.{clamped, coordinate, coordinates, offCorner, offCorners}
-use Rattle.rules.proofs.GridSizes.{natAbs-signed}
+use Rattle.rules.specs.Lines.{clamped, coordinate, coordinates, offCorners}
+use Rattle.rules.proofs.GridSizes.{GridPoint, natAbs-signed}
+use Rattle.rules.proofs.FillRoom.{corners-on-grid}
 use Rattle.grid.proofs.Value.{Is, ofInt-is}
 
 -- ---- one coordinate
@@ -60,14 +61,10 @@ leb-min n = go (leb n gridEdge) refl
 grid-read : (z : ℤ) → onGrid (coordinate z) ≡ leb (natAbs z) gridEdge
 grid-read z = of-whole (coordinate z) (clamped z) (read-is z) .0 ∙ ap (λ (k : ℕ). leb k gridEdge) (size-clamped z) ∙ leb-min (natAbs z)
 
-whole-read : (z : ℤ) → leb (natAbs z) gridEdge ≡ true → wholeOf (coordinate z) ≡ z
-whole-read z e = of-whole (coordinate z) (clamped z) (read-is z) .1 ∙ clamped-same z (leb-true (natAbs z) gridEdge e)
+whole-read : (z : ℤ) → natAbs z ≤ gridEdge → wholeOf (coordinate z) ≡ z
+whole-read z h = of-whole (coordinate z) (clamped z) (read-is z) .1 ∙ clamped-same z h
 
 -- ---- all of them
-
-or-assoc : (a b c : Bool) → (a || (b || c)) ≡ ((a || b) || c)
-or-assoc true b c = refl
-or-assoc false b c = refl
 
 -- document 01's test for refusal 4 on the coordinates is the one on the numbers in the text
 pub off-grid-read : (cs : List Pt) → offGrid (coordinates cs) ≡ offCorners cs
@@ -75,16 +72,16 @@ unfolding offGrid coordinates offCorners
 off-grid-read [] = refl
 off-grid-read (c ∷ cs) =
     ap₂ (λ (a b : Bool). not a || b) (grid-read (c .x)) (ap₂ (λ (a b : Bool). not a || b) (grid-read (c .y)) (off-grid-read cs))
-    ∙ or-assoc (not (leb (natAbs (c .x)) gridEdge)) (not (leb (natAbs (c .y)) gridEdge)) (offCorners cs)
+    ∙ sym (or-assoc (not (leb (natAbs (c .x)) gridEdge)) (not (leb (natAbs (c .y)) gridEdge)) (offCorners cs))
 
 -- and without it the coordinates are the corners
 pub points-read : (cs : List Pt) → offCorners cs ≡ false → pointsOf (coordinates cs) ≡ cs
-unfolding pointsOf coordinates offCorners
-points-read [] h = refl
-points-read (c ∷ cs) h =
-    let a : (offCorner c ≡ false) × (offCorners cs ≡ false) = or-false (offCorner c) (offCorners cs) h in
-    let b = or-false (not (leb (natAbs (c .x)) gridEdge)) (not (leb (natAbs (c .y)) gridEdge)) (a .0) in
-    ap₂ _∷_ (ap₂ (λ (x y : ℤ). record { x = x; y = y }) (whole-read (c .x) (not-false _ (b .0))) (whole-read (c .y) (not-false _ (b .1)))) (points-read cs (a .1))
+unfolding pointsOf coordinates
+points-read cs h = go cs (corners-on-grid cs h)
+  where
+    go : (cs : List Pt) → Each GridPoint cs → pointsOf (coordinates cs) ≡ cs
+    go [] end = refl
+    go (c ∷ cs) (h & hs) = ap₂ _∷_ (ap₂ (λ (x y : ℤ). record { x = x; y = y }) (whole-read (c .x) (h .x-small)) (whole-read (c .y) (h .y-small))) (go cs hs)
 
 pub coordinates-length : (cs : List Pt) → length (coordinates cs) ≡ 2 * length cs
 unfolding coordinates

@@ -1,12 +1,11 @@
 -- A line that is in form: what it starts with, and its points.
-use Prim.Native.Nat.{ℕ, _<_}
-use native.Mathlib.Omega.{arith}
-use mathlib.Core.Path.{_≡_, refl, ap, _∙_}
+use Prim.Native.Nat.{ℕ}
+use mathlib.Core.Path.{_≡_, ap, _∙_}
 use mathlib.Core.List.{List, [], _∷_, _++_, map}
-use lib.ListN.{length, drop}
+use lib.ListN.{drop}
 use Rattle.rules.specs.Plane.{Pt}
-use Rattle.rules.specs.Text.{bytes, pointText, behind, InForm, NotInForm, Ends, mostBytes}
-use Rattle.rules.proofs.TextLines.{ends-behind, closes, line-splits}
+use Rattle.rules.specs.Text.{bytes, pointText, behind, InForm, NotInForm, Ends}
+use Rattle.rules.proofs.TextLines.{ends-behind, closes, line-splits, no-corner}
 use Rattle.wkt.specs.Reads.{opening, closing, begin, NoPoint}
 
 -- the corners, of which there is a first
@@ -16,16 +15,12 @@ pub record Written (line : List ℕ) : Type 0 where
   pub text : line ≡ opening ++ (pointText c ++ (behind (map pointText (cs ++ (c ∷ []))) ++ closing))
 
 pub written : (line : List ℕ) (corners : List Pt) → InForm line corners → Written line
-written line [] f = absurd (f .some-corner refl)
+written line [] f = absurd (no-corner f)
 written line (c ∷ cs) f = record { c = c; cs = cs; text = f .written ∙ line-splits c cs }
 
 -- where points are closed, what stands behind each ends
 pub ends-closed : (ps : List Pt) → Ends (behind (map pointText ps) ++ closing)
 ends-closed ps = ends-behind ps closing (closes (bytes ")"))
-
-pub too-long : (line : List ℕ) → mostBytes < length line → NotInForm line
-unfolding NotInForm
-too-long line h corners f = omega (arith, f .short)
 
 pub not-opened : (line : List ℕ) → ((m : List ℕ) → line ≡ opening ++ m → ⊥) → NotInForm line
 unfolding NotInForm

@@ -9,3 +9,4 @@ pub mod Outcomes
 pub mod Rings
 pub mod Areas
 pub mod WriteEntry
+pub mod RoundTrip

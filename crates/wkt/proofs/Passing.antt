@@ -4,7 +4,7 @@ use native.Mathlib.Omega.{arith}
 use mathlib.Core.Path.{_≡_, refl, sym, ap, _∙_}
 use mathlib.Core.Logic.{_≢_}
 use mathlib.Core.List.{List, [], _∷_, _++_, map, append-assoc, append-nil}
-use lib.ListN.{length, take, drop, getD, length-append, length-drop}
+use lib.ListN.{length, take, drop, length-append, length-drop}
 use lib.Seq.{take-at}
 use lib.Ieee.{Float}
 use Rattle.algebra.specs.Rings.{lastOf}
@@ -13,7 +13,8 @@ use Rattle.rules.specs.Limits.{mostCoordinates}
 use Rattle.rules.specs.Plane.{Pt}
 use Rattle.rules.specs.Text.{bytes, pointText, behind, polygonLine, InForm, NotInForm}
 use Rattle.rules.specs.Lines.{coordinates}
-use Rattle.rules.proofs.TextLines.{point-parse, ends-behind, behind-parse, GoesOn, stops, line-splits}
+use Rattle.rules.proofs.TextNumbers.{at-first}
+use Rattle.rules.proofs.TextLines.{point-parse, ends-behind, behind-parse, behind-snoc, GoesOn, stops, line-splits}
 use Rattle.wkt.specs.Reads.{opening, parting, closing, begin, Opened, NoParting, PointAt, NoPoint, stored, Held, Passed, ReadAs}
 use Rattle.wkt.proofs.Forms.{Written, written, ends-closed}
 use Rattle.wkt.proofs.Marks.{room-for-two}
@@ -57,15 +58,6 @@ passed-first line coords end x y o size h =
       few = omega arith;
     }
 
-behind-snoc : (qs : List Pt) (q : Pt) (r : List ℕ) → behind (map pointText (qs ++ (q ∷ []))) ++ r ≡ behind (map pointText qs) ++ (parting ++ (pointText q ++ r))
-unfolding behind
-behind-snoc [] q r = ap (λ (l : List ℕ). parting ++ (l ++ r)) (append-nil (pointText q))
-behind-snoc (a ∷ qs) q r =
-    ap (λ (l : List ℕ). parting ++ l)
-    (append-assoc (pointText a) (behind (map pointText (qs ++ (q ∷ [])))) r
-    ∙ ap (λ (l : List ℕ). pointText a ++ l) (behind-snoc qs q r)
-    ∙ sym (append-assoc (pointText a) (behind (map pointText qs)) (parting ++ (pointText q ++ r))))
-
 pub passed-more : {line : List ℕ} {coords : List Float} {after from at n end : ℕ} {x y : Float} → Passed line coords after from at n
     → drop at line ≡ parting ++ drop (at + 2) line → PointAt line (at + 2) end x y → Passed line (stored coords n x y) after (at + 2) end (n + 1)
 passed-more {line = line} {coords = coords} {at = at} {n = n} {end = end} {x = x} {y = y} w e h =
@@ -96,7 +88,7 @@ passed-as e w = rw e w
 -- a comma, a space and a point, or the closing
 no-next : (line : List ℕ) (at : ℕ) (rest : List Pt) → drop at line ≡ behind (map pointText rest) ++ closing → drop at line ≡ parting ++ drop (at + 2) line → NoPoint line (at + 2) → ⊥
 unfolding behind NoPoint
-no-next line at [] f e h = let k : _≡_ {A = List ℕ} closing (parting ++ drop (at + 2) line) = sym f ∙ e in omega (arith, ap (λ (l : List ℕ). getD l 0 0) k)
+no-next line at [] f e h = let k : _≡_ {A = List ℕ} closing (parting ++ drop (at + 2) line) = sym f ∙ e in omega (arith, at-first k)
 no-next line at (q ∷ rest) f e h =
     let k : _≡_ {A = List ℕ} (parting ++ drop (at + 2) line) (parting ++ ((pointText q ++ behind (map pointText rest)) ++ closing)) = sym e ∙ f in
     let j : drop (at + 2) line ≡ (pointText q ++ behind (map pointText rest)) ++ closing = cc in

@@ -1,23 +1,19 @@
 -- What the reader gives back, by what was read; and that two results which its promise allows are equal.
 use Prim.Native.Nat.{ℕ, _*_, _≤_, _<_}
 use native.Mathlib.Omega.{arith}
-use mathlib.Core.Path.{_≡_, refl, sym, ap, ap₂, _∙_}
+use mathlib.Core.Path.{_≡_, sym, ap, ap₂, _∙_}
 use mathlib.Core.List.{List}
 use lib.ListN.{length, take, length-take}
 use lib.Ieee.{Float}
 use Rattle.rules.specs.Limits.{mostPoints}
 use Rattle.rules.specs.Layout.{over}
-use Rattle.rules.specs.Text.{NotInForm}
-use Rattle.rules.specs.Lines.{in-form, not-in-form, Reading, Reads}
+use Rattle.rules.specs.Lines.{in-form, Reading, Reads}
 use Rattle.rules.proofs.LineAnswers.{answers-one, reader-three, reader-six, reader-answered}
 use Rattle.entries.specs.declared.Answer.{Answer}
 use Rattle.entries.proofs.Answers.{answers-equal}
 use Rattle.wkt.specs.Reads.{ReadAs}
 use Rattle.wkt.specs.Promise.{readingOf}
 use Rattle.wkt.proofs.Corners.{coordinates-length}
-
-pub refused : (line : List ℕ) (coords : List Float) → NotInForm line → Reads line coords (record { number = 11; count = 0; coords = coords })
-refused line coords h = not-in-form h refl
 
 module _ {line : List ℕ} {n : ℕ} {own : List Float} (r : ReadAs line n own) where
   pub too-many : (coords : List Float) → mostPoints < n → Reads line coords (record { number = 3; count = 0; coords = coords })

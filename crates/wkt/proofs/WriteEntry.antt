@@ -9,7 +9,7 @@ use lib.ListN.{length, take}
 use lib.Ieee.{Float}
 use Rattle.algebra.specs.Lists.{countFrom}
 use Rattle.algebra.proofs.Lists.{each-imp}
-use Rattle.algebra.proofs.Equal.{ltb-false}
+use borrow.Author.Tests.{ltb-false}
 use Rattle.algebra.proofs.Counting.{count-take, count-within, count-length}
 use Rattle.rules.specs.Limits.{mostPoints}
 use Rattle.rules.specs.Plane.{Pt}
@@ -55,7 +55,7 @@ module _ (cs : List Float) (out : List ℕ) where
     enough : polygonRoom (length ps) ≤ length out
     enough = ltb-false (length out) (polygonRoom (length ps)) (passes (ltb (length out) (polygonRoom (length ps))) 5 [] (sym (others-decide (polygon-front cs (length out)) first-none) ∙ none) .0)
 
-    short : length (polygonLine ps) ≤ polygonRoom (length ps)
+    pub short : length (polygonLine ps) ≤ polygonRoom (length ps)
     short = polygon-short ps (grid-points cs (accepted .on-grid))
 
     pub line-room : Room out 0 (polygonLine ps)

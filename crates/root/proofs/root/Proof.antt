@@ -8,7 +8,8 @@ use Rattle.rules.specs.Root.{root as rootOf}
 use Rattle.rules.proofs.Root.{root-zero}
 use Rattle.rules.proofs.Scale.{scale-high}
 use Rattle.root.proofs.Shift.{scaled-shl}
-use Rattle.root.proofs.Quotient.{Parts, in-float, top-fits, power-fits, quotient}
+use Rattle.grid.proofs.Value.{in-float}
+use Rattle.root.proofs.Quotient.{Parts, top-fits, power-fits, quotient}
 use Rattle.root.proofs.root.Statement.{statement}
 use Rattle.root.proofs.root.Tie as tie
 

@@ -1,11 +1,11 @@
 -- `above_zero` meets its contract.
 use borrow.Author.Needs.{needs}
-use Rattle.decimals.proofs.Values.{in-float}
+use Rattle.decimals.proofs.Floats.{size-exact}
 use Rattle.decimals.proofs.read.above_zero.Statement.{statement}
 use Rattle.decimals.proofs.read.above_zero.Tie as tie
 
 int-to-float-result : tie.Need-int-to-float-result
-int-to-float-result c = in-float _ (search needs)
+int-to-float-result c = size-exact _ (search needs)
 
 returns : tie.Need-returns
 returns c = search needs

@@ -1,7 +1,7 @@
 -- `byte` meets its contract.
 use borrow.Author.Needs.{needs}
 use mathlib.Core.Path.{sym}
-use Rattle.decimals.proofs.Places.{past}
+use lib.ListN.{List·getD-eq-default}
 use Rattle.decimals.proofs.read.byte.Statement.{statement}
 use Rattle.decimals.proofs.read.byte.Tie as tie
 
@@ -12,7 +12,7 @@ returns : tie.Need-returns
 returns c = search needs
 
 returns-2 : tie.Need-returns-2
-returns-2 c = sym (past (c .before .args .line .now) (c .before .args .i) (c .if1 .left))
+returns-2 c = sym (List·getD-eq-default (c .before .args .line .now) 0 (c .if1 .left))
 
 pub byte-spec : {M : Type 1} → statement M
 byte-spec = tie.close (tie.spec shared-slice-read-result returns returns-2)

@@ -6,7 +6,7 @@ use denote.Ref.{now}
 use lib.Seq.{length-take-le}
 use Rattle.decimals.proofs.Flags.{nothing}
 use Rattle.wkt.specs.Reads.{begin}
-use Rattle.wkt.proofs.Forms.{too-long}
+use Rattle.rules.proofs.TextLines.{too-long}
 use Rattle.wkt.proofs.Marks.{too-short, opens-told}
 use Rattle.wkt.proofs.read.opens.Statement.{statement}
 use Rattle.wkt.proofs.read.opens.Tie as tie

@@ -4,7 +4,8 @@ use mathlib.Core.Path.{sym}
 use borrow.Author.Needs.{needs}
 use denote.Ref.{now}
 use Rattle.wkt.specs.Reads.{ReadAs}
-use Rattle.wkt.proofs.ReadEntry.{refused, too-many, held-length, own-holds, too-little, answered}
+use Rattle.rules.proofs.LineAnswers.{reads-not}
+use Rattle.wkt.proofs.ReadEntry.{too-many, held-length, own-holds, too-little, answered}
 use Rattle.wkt.proofs.read.read_polygon.Statement.{statement}
 use Rattle.wkt.proofs.read.read_polygon.Tie as tie
 
@@ -36,7 +37,7 @@ read-into-requires : tie.Need-read-into-requires
 read-into-requires c κs = search needs
 
 returns : tie.Need-returns
-returns c = refused _ _ (c .before .read-into .ensures .0 (c .if1 .taken))
+returns c = reads-not _ _ (c .before .read-into .ensures .0 (c .if1 .taken))
 
 returns-2 : tie.Need-returns-2
 returns-2 c = too-many (was-read (c .before)) _ (c .if2 .taken)
