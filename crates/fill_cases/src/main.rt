@@ -7,6 +7,7 @@ use show::front;
 use show::lines;
 use show::named;
 use show::text;
+use show::with_room;
 
 // The request's square, an area with a corner that turns right, a triangle as wide as the grid.
 fn filled() {
@@ -27,6 +28,27 @@ fn refused() {
     lines(b"POLYGON ((0 0, 4 0, 0 4, 0 4, 0 0))");
     lines(b"POLYGON ((0 0, 0 4, 4 4, 4 0, 0 0))");
     lines(b"POLYGON ((0 0, 1 0, 2 0, 3 0, 0 0))");
+}
+
+// 6, which the program never gives: two triangles may take 127 bytes.
+fn little_room() {
+    let square = b"POLYGON ((0 0, 4 0, 4 4, 0 4, 0 0))";
+    let backwards = b"POLYGON ((0 0, 0 4, 4 4, 4 0, 0 0))";
+    with_room(
+        b"a square with room of 126 bytes: ",
+        square,
+        &mut [9u8; 126],
+    );
+    with_room(
+        b"a square with room of 127 bytes: ",
+        square,
+        &mut [9u8; 127],
+    );
+    with_room(
+        b"backwards with room of 126 bytes: ",
+        backwards,
+        &mut [9u8; 126],
+    );
 }
 
 // Not in form, by the points.
@@ -93,6 +115,7 @@ fn main() {
     filled();
     text(b"Refused\n");
     refused();
+    little_room();
     text(b"Not in form\n");
     points_not_in_form();
     rest_not_in_form();

@@ -71,6 +71,11 @@ fn both(line: &[u8], size_only: bool) {
     written_back(line);
 }
 
+// A line whose areas are written to so much room.
+pub fn with_room(name: &[u8], line: &[u8], out: &mut [u8]) {
+    answered(name, fill_areas(line, out), out, false);
+}
+
 // A line that is printed itself.
 pub fn lines(line: &[u8]) {
     text(line);
