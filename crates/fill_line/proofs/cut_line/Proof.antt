@@ -1,11 +1,10 @@
 -- `cut_line` meets its contract: the line is refused by the reader, or its coordinates are given to the cutter.
-use Prim.Native.Nat.{_*_, _≤_}
+use Prim.Native.Nat.{_≤_}
 use native.Mathlib.Omega.{arith}
 use borrow.Author.Needs.{needs}
-use mathlib.Core.Path.{_≡_, sym, _∙_}
-use lib.ListN.{length, length-take}
+use mathlib.Core.Path.{sym}
 use lib.Seq.{length-take-le}
-use Rattle.rules.specs.Limits.{mostPoints, mostCoordinates}
+use Rattle.rules.specs.Limits.{mostPoints}
 use Rattle.fill_line.proofs.Cutting.{not-read, read-few, read-cut, lent-most}
 use Rattle.fill_line.proofs.cut_line.Statement.{statement}
 use Rattle.fill_line.proofs.cut_line.Tie as tie

@@ -6,7 +6,7 @@ use mathlib.Core.Path.{_≡_, sym}
 use denote.Ref.{now}
 use lib.ListN.{length, take}
 use lib.Seq.{length-take-le}
-use Rattle.rules.specs.Limits.{mostCoordinates, mostTriangles, mostIndices}
+use Rattle.rules.specs.Limits.{mostCoordinates, mostTriangles}
 use Rattle.rules.specs.Lines.{areasFor}
 use Rattle.fill_line.proofs.Filling.{Cut, Stands, cut-refused, cut-done, few, text-fits, text-small, text-within, text-written, areas-kept, areas-few, areas-stand}
 use Rattle.fill_line.proofs.fill_areas.Statement.{statement}

@@ -1,12 +1,11 @@
 -- `fill_triangles` meets its contract: what the line's cut refuses, or its triangles, each of three corners, as text.
-use Prim.Native.Nat.{_+_, _*_, _≤_}
 use native.Mathlib.Omega.{arith}
 use borrow.Author.Needs.{needs}
 use mathlib.Core.Path.{_≡_, sym}
 use denote.Ref.{now}
-use lib.ListN.{length, take}
+use lib.ListN.{length}
 use lib.Seq.{length-take-le}
-use Rattle.rules.specs.Limits.{mostCoordinates, mostTriangles, mostIndices}
+use Rattle.rules.specs.Limits.{mostCoordinates}
 use Rattle.rules.specs.Entries.{trianglesFor}
 use Rattle.fill_line.proofs.Filling.{Cut, cut-refused, cut-done, few, text-fits, text-small, text-within, text-written, triangles-kept, triangles-stand}
 use Rattle.fill_line.proofs.fill_triangles.Statement.{statement}

@@ -1,5 +1,4 @@
 -- `written_back` is safe: at most 512 corners are held.
-use native.Mathlib.Omega.{arith}
 use borrow.Author.Needs.{needs}
 use mathlib.Core.Path.{sym}
 use lib.Seq.{length-take-le}
