@@ -7,6 +7,7 @@ use fill_line::fill_triangles;
 use fill_line::line_end;
 use fill_line::text_room;
 use input::more;
+use wkt::read::MOST_BYTES;
 ghost use Prim.Native.Nat.{_≤_};
 ghost use mathlib.Core.Path.{_≡_};
 ghost use lib.ListN.{length};
@@ -33,10 +34,12 @@ fn asked() -> Plan {
 }
 
 // A line of the most bytes and its newline.
-fn line_room() -> [u8; 8193]
+const MOST_INPUT: usize = MOST_BYTES + 1;
+
+fn line_room() -> [u8; MOST_INPUT]
     ensures { λ r. ⌜ length r ≡ 8193 ⌝ }
 {
-    [0u8; 8193]
+    [0u8; MOST_INPUT]
 }
 
 struct Input {

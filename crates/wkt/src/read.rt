@@ -19,7 +19,7 @@ ghost use Rattle.wkt.specs.Reads.{begin, parting, closing, Opened, Point
 ghost use Rattle.wkt.specs.Promise.{readingOf};
 
 // Of a line, without the newline.
-const MOST_BYTES: usize = 8192;
+pub const MOST_BYTES: usize = 8192;
 
 // Where the first point stands, behind `POLYGON ((`.
 const BEGIN: usize = 10;
