@@ -13,7 +13,7 @@ use Rattle.rules.specs.Limits.{mostCoordinates}
 use Rattle.rules.specs.Plane.{Pt}
 use Rattle.rules.specs.Text.{bytes, pointText, behind, polygonLine, InForm, NotInForm}
 use Rattle.rules.specs.Lines.{coordinates}
-use Rattle.rules.proofs.TextNumbers.{at-first}
+use Rattle.rules.proofs.TextNumbers.{at-first, ends-nil}
 use Rattle.rules.proofs.TextLines.{point-parse, ends-behind, behind-parse, behind-snoc, GoesOn, stops, line-splits}
 use Rattle.wkt.specs.Reads.{opening, parting, closing, begin, Opened, NoParting, PointAt, NoPoint, stored, Held, Passed, ReadAs}
 use Rattle.wkt.proofs.Forms.{Written, written, ends-closed}
@@ -115,7 +115,7 @@ length-inits p [] = refl
 length-inits p (q ∷ qs) = ap suc (length-inits q qs)
 
 same-point : (p q : Pt) → pointText p ≡ pointText q → p ≡ q
-same-point p q e = point-parse p q [] [] (λ d. omega arith) (λ d. omega arith) (ap (λ (l : List ℕ). l ++ []) e) .0
+same-point p q e = point-parse p q [] [] ends-nil ends-nil (ap (λ (l : List ℕ). l ++ []) e) .0
 
 -- the last of the points is the first again, so the others are the corners
 whole-line : (line : List ℕ) (p : Pt) (qs : List Pt) → line ≡ opening ++ drop begin line → drop begin line ≡ pointText p ++ (behind (map pointText qs) ++ closing) → qs ≢ [] → p ≡ lastOf p qs

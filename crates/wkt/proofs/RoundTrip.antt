@@ -75,7 +75,6 @@ module _ {line : List ℕ} {coords after : List Float} {r : Answer} (reads : Rea
     corners : List Pt
     form : InForm line corners
     few : length corners ≤ mostPoints
-    count : r .count ≡ length corners
     held : take (2 * r .count) after ≡ coordinates corners
 
   given : Given
@@ -85,7 +84,7 @@ module _ {line : List ℕ} {coords after : List Float} {r : Answer} (reads : Rea
       go (eleven h e) = absurd (omega arith)
       go (three f h e) = absurd (omega arith)
       go (six f h k e) = absurd (omega arith)
-      go (zero {corners = corners} f few e n held) = record { corners = corners; form = f; few = few; count = n; held = ap (λ (k : ℕ). take (2 * k) after) n ∙ held }
+      go (zero {corners = corners} f few e n held) = record { corners = corners; form = f; few = few; held = ap (λ (k : ℕ). take (2 * k) after) n ∙ held }
 
   module _ {out text : List ℕ} {s : Answer} (wrote : PolygonPromise (take (2 * r .count) after) out s text) where
     -- the line is written, where any is
