@@ -17,13 +17,17 @@ fn filled() {
     lines(b"POLYGON ((0 0, 300 0, 320 20, 320 130, 300 150, 150 150, 150 400, 0 400, 0 0))");
 }
 
-// In form, and refused by document 01's numbers.
-fn refused() {
+// In form, and refused by document 01's numbers: too few corners, off the grid.
+fn refused_by_numbers() {
     lines(b"POLYGON ((5 5, 5 5))");
     lines(b"POLYGON ((5 5, 6 6, 5 5))");
     lines(b"POLYGON ((0 0, 1025 0, 0 4, 0 0))");
     lines(b"POLYGON ((0 0, 4 0, 0 -1025, 0 0))");
     lines(b"POLYGON ((99999 0, 1 0, 1 1, 99999 0))");
+}
+
+// Equal neighbours, no ear.
+fn refused_by_ring() {
     lines(b"POLYGON ((0 0, 0 0, 4 0, 0 0))");
     lines(b"POLYGON ((0 0, 4 0, 0 4, 0 4, 0 0))");
     lines(b"POLYGON ((0 0, 0 4, 4 4, 4 0, 0 0))");
@@ -51,34 +55,46 @@ fn little_room() {
     );
 }
 
-// Not in form, by the points.
-fn points_not_in_form() {
+// Not in form, by the closing point.
+fn closing_points() {
     lines(b"POLYGON ((5 5))");
     lines(b"POLYGON ((99999 0, 1 0, 1 1, 88888 0))");
     lines(b"POLYGON ((0 0, 4 0, 0 4, 0 1))");
+}
+
+// By a number.
+fn numbers() {
     lines(b"POLYGON ((00 0, 4 0, 0 4, 00 0))");
     lines(b"POLYGON ((0 0, 04 0, 0 4, 0 0))");
     lines(b"POLYGON ((-0 0, 4 0, 0 4, -0 0))");
     lines(b"POLYGON ((+1 0, 4 0, 0 4, +1 0))");
     lines(b"POLYGON ((0.0 0, 4 0, 0 4, 0.0 0))");
-    lines(b"POLYGON ((0, 4 0, 0 4, 0))");
     lines(b"POLYGON ((- 0, 4 0, 0 4, - 0))");
 }
 
-// And by what stands round them.
-fn rest_not_in_form() {
+// By what stands in front of the points.
+fn openings() {
     lines(b"");
     lines(b"POLYGON EMPTY");
-    lines(b"POLYGON (())");
     lines(b"POLYGON((0 0, 4 0, 0 4, 0 0))");
     lines(b"polygon ((0 0, 4 0, 0 4, 0 0))");
     lines(b" POLYGON ((0 0, 4 0, 0 4, 0 0))");
-    lines(b"POLYGON ((0 0, 4 0, 0 4, 0 0)) ");
+}
+
+// Between them.
+fn partings() {
+    lines(b"POLYGON (())");
+    lines(b"POLYGON ((0, 4 0, 0 4, 0))");
     lines(b"POLYGON ((0 0,4 0,0 4,0 0))");
     lines(b"POLYGON ((0  0, 4 0, 0 4, 0 0))");
-    lines(b"POLYGON ((0 0, 4 0, 0 4, 0 0)");
-    lines(b"POLYGON ((0 0, 4 0, 0 4, 0 0), (1 1, 2 1, 1 2, 1 1))");
     named(b"a tab for a space", b"POLYGON ((0\t0, 4 0, 0 4, 0 0))");
+}
+
+// And behind them.
+fn endings() {
+    lines(b"POLYGON ((0 0, 4 0, 0 4, 0 0)");
+    lines(b"POLYGON ((0 0, 4 0, 0 4, 0 0)) ");
+    lines(b"POLYGON ((0 0, 4 0, 0 4, 0 0), (1 1, 2 1, 1 2, 1 1))");
     named(b"a carriage return", b"POLYGON ((0 0, 4 0, 0 4, 0 0))\r");
 }
 
@@ -92,13 +108,18 @@ fn long_numbers() {
     named(b"one digit more", front(&longer, m));
 }
 
-// 512 corners and 513, and what comes behind the last.
+// 512 corners and 513.
 fn many_corners() {
     let mut line = build::room();
     let n = build::corners(&mut line, 512, b"0 0))");
     named(b"512 corners, all the same", front(&line, n));
     let n = build::corners(&mut line, 513, b"0 0))");
     named(b"513 corners", front(&line, n));
+}
+
+// What comes behind the last of them.
+fn behind_many_corners() {
+    let mut line = build::room();
     let n = build::corners(&mut line, 513, b"0 0) )");
     named(
         b"513 corners, and a space before the last parenthesis",
@@ -106,6 +127,11 @@ fn many_corners() {
     );
     let n = build::corners(&mut line, 513, b"0 1))");
     named(b"513 corners, and another closing point", front(&line, n));
+}
+
+// 512 corners that can be filled.
+fn many_filled() {
+    let mut line = build::room();
     let n = build::stairs(&mut line);
     named(b"stairs of 512 corners", front(&line, n));
 }
@@ -114,12 +140,18 @@ fn main() {
     text(b"Filled\n");
     filled();
     text(b"Refused\n");
-    refused();
+    refused_by_numbers();
+    refused_by_ring();
     little_room();
     text(b"Not in form\n");
-    points_not_in_form();
-    rest_not_in_form();
+    closing_points();
+    numbers();
+    openings();
+    partings();
+    endings();
     text(b"Long lines\n");
     long_numbers();
     many_corners();
+    behind_many_corners();
+    many_filled();
 }
