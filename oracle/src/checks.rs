@@ -25,8 +25,10 @@ impl Linked {
             let s = text::fill(line, triangles_only, b.lent());
             if r != s || a != b {
                 let inputs = format!("triangles {triangles_only}, {room} bytes of room, {:?}", String::from_utf8_lossy(line));
-                let show = |x: &Lent| String::from_utf8_lossy(x.read()).into_owned();
-                differ("fill", &inputs, &format!("{r:?} {:?}", show(&a)), &format!("{s:?} {:?}", show(&b)));
+                let show = |x: &Lent, count: u32| String::from_utf8_lossy(&x.read()[..(count as usize).min(room)]).into_owned();
+                let other = a.read().iter().zip(b.read()).position(|(x, y)| x != y);
+                let ours = format!("{r:?} {:?}, the first other byte at {other:?}", show(&a, r.count));
+                differ("fill", &inputs, &ours, &format!("{s:?} {:?}", show(&b, s.count)));
             }
             self.inputs += 1;
             self.filled += (r.number == 0) as u64;

@@ -9,24 +9,28 @@ use borrow.Author.Tests.{le-ltb}
 use lib.Dec.{ltb}
 use lib.ListN.{length, take, drop, length-map}
 use Rattle.algebra.specs.Lists.{Each}
-use Rattle.algebra.proofs.Lists.{each-imp, each-map}
+use Rattle.algebra.proofs.Lists.{each-all, each-imp, each-map}
 use Rattle.algebra.specs.Sums.{total, integers, naturals, parities}
 use Rattle.algebra.proofs.Sums.{total-map, total-same}
+use Rattle.algebra.specs.Rings.{ringOf}
 use Rattle.rules.specs.Limits.{mostPoints}
 use Rattle.rules.specs.Plane.{Pt, point}
 use Rattle.rules.specs.Crossing.{odd, oddCrossings}
 use Rattle.rules.specs.Layout.{over}
 use Rattle.rules.specs.Refusals.{_gives_, firstRefusal, noEar, equalNeighbours, countChecks}
+use Rattle.rules.specs.Entries.{trianglesFor}
 use Rattle.rules.specs.Measure.{points, area2}
 use Rattle.rules.specs.Text.{InForm, NotInForm, multipolygonLine}
-use Rattle.rules.specs.Lines.{in-form, not-in-form, Writing, writing, fillRoom, beforeRing, fillChecks, filler, Fills}
+use Rattle.rules.specs.Lines.{in-form, not-in-form, Writing, writing, fillRoom, beforeRing, areasFor, fillChecks, filler, Fills}
 use Rattle.rules.proofs.Rows.{row-off, given-number, front-skips, others-decide}
 use Rattle.rules.proofs.Answers.{over-beyond, writing-number, writing-answered, writing-refused}
 use Rattle.rules.proofs.Layouts.{take-over}
 use Rattle.rules.proofs.TextLines.{multipolygon-injective}
 use Rattle.rules.proofs.LineAnswers.{answer-of, eleven-of}
 use Rattle.rules.proofs.FillRows.{even, sound, corners-front, filled}
-use Rattle.rules.proofs.Plans.{Plan, Plans}
+use Rattle.rules.proofs.Outline.{cut-count}
+use Rattle.rules.proofs.Results.{triangles-are}
+use Rattle.rules.proofs.Plans.{Plan, Plans, triangles-plan, areas-plan}
 
 -- ---- the ways to fill a line
 
@@ -124,6 +128,10 @@ module _ (plan : List Pt → List (List ℕ)) (line out : List ℕ) (r : Writing
     pub fill-text : take (r .count) (r .text) ≡ multipolygonLine planned
     fill-text = rw written (take-over (multipolygonLine planned) out)
 
+    -- which is read as no other rings
+    pub fill-rings : (rings : List (List Pt)) → take (r .count) (r .text) ≡ multipolygonLine rings → rings ≡ planned
+    fill-rings rings e = multipolygon-injective rings planned (sym e ∙ fill-text)
+
     -- and what lies behind it keeps its contents
     pub fill-beyond : drop (r .count) (r .text) ≡ drop (r .count) out
     fill-beyond = rw written (over-beyond (multipolygonLine planned) out)
@@ -147,10 +155,30 @@ planned-describes {ps} {rings} plan = record {
 }
 
 -- whatever rings the written text is read as, they describe the outline that was read
-pub fill-describes :
-    (plan : List Pt → List (List ℕ)) → Plans plan → (line out : List ℕ) (r : Writing) → Fills plan line out r → (corners : List Pt) → InForm line corners → r .number ≡ 0
+abbrev pub Described : (List Pt → List (List ℕ)) → Type 0
+Described plan =
+    (line out : List ℕ) (r : Writing) → Fills plan line out r → (corners : List Pt) → InForm line corners → r .number ≡ 0
     → (rings : List (List Pt)) → take (r .count) (r .text) ≡ multipolygonLine rings → Describe rings corners
+
+fill-describes : (plan : List Pt → List (List ℕ)) → Plans plan → Described plan
 fill-describes plan plans line out r f corners form ok rings e =
     let a = filled corners (length out) (sym (fill-first plan line out r f corners form) ∙ ok) in
-    let same : map (points corners) (plan corners) ≡ rings = multipolygon-injective (map (points corners) (plan corners)) rings (sym (fill-text plan line out r f corners form ok) ∙ e) in
-    subst (λ (l : List (List Pt)). Describe l corners) same (planned-describes (plans corners _ (a .outline)))
+    let same = fill-rings plan line out r f corners form ok rings e in
+    subst (λ (l : List (List Pt)). Describe l corners) (sym same) (planned-describes (plans corners _ (a .outline)))
+
+pub areas-described : Described areasFor
+areas-described = fill-describes areasFor areas-plan
+
+pub triangles-described : Described trianglesFor
+triangles-described = fill-describes trianglesFor triangles-plan
+
+-- n - 2 triangles for n corners
+pub triangles-written :
+    (line out : List ℕ) (r : Writing) → Fills trianglesFor line out r → (corners : List Pt) → InForm line corners → r .number ≡ 0
+    → (rings : List (List Pt)) → take (r .count) (r .text) ≡ multipolygonLine rings → (Each (λ ring. length ring ≡ 3) rings) × (length rings ≡ length corners - 2)
+triangles-written line out r f corners form ok rings e =
+    let a = filled corners (length out) (sym (fill-first trianglesFor line out r f corners form) ∙ ok) .outline in
+    let same : rings ≡ map (points corners) (map ringOf (a .triangles)) = fill-rings trianglesFor line out r f corners form ok rings e ∙ ap (map (points corners)) (triangles-are a) in
+    rw same
+    (each-map (points corners) (each-map ringOf (each-all (λ t. refl) (a .triangles))),
+    length-map (map ringOf (a .triangles)) (points corners) ∙ length-map (a .triangles) ringOf ∙ cut-count corners (a .triangles) (a .three) (a .is-cut))

@@ -5,9 +5,12 @@ use lib.Seq.{length-take-le}
 use Rattle.fill.proofs.write.Statement.{statement}
 use Rattle.fill.proofs.write.Tie as tie
 
--- the place of the start
+-- the places of the code, each from a later one
+abbrev begun : tie.After-wide → tie.After-shared-slice-known
+begun c = c .before .before .before
+
 abbrev start : tie.After-wide → tie.Start
-start c = c .before .before .before .before
+start c = begun c .before
 
 cast-print-decimal : tie.Need-cast-print-decimal
 cast-print-decimal c = search needs

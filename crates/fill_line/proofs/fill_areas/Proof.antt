@@ -13,8 +13,11 @@ use Rattle.fill_line.proofs.fill_areas.Statement.{statement}
 use Rattle.fill_line.proofs.fill_areas.Tie as tie
 
 -- the places of the code, each from a later one
+abbrev begun : tie.After-zeros → tie.After-slice-known
+begun c = c .before .before
+
 abbrev start : tie.After-zeros → tie.Start
-start c = c .before .before .before .before
+start c = begun c .before .before
 
 abbrev lent : tie.After-cut-line → tie.After-zeros
 lent c = c .before .before .before
@@ -34,8 +37,11 @@ merged c = c .before .before .before
 abbrev ready : tie.After-wide2 → tie.After-threes
 ready c = shared (merged c .before) .before
 
+abbrev shared-again : tie.After-write-multipolygon-arg → tie.After-coords4
+shared-again c = c .before .before .before
+
 abbrev counted : tie.After-write-multipolygon-arg → tie.After-wide2
-counted c = c .before .before .before .before
+counted c = shared-again c .before
 
 abbrev written : tie.After-slice-known2 → tie.After-write-multipolygon
 written c = c .before .before

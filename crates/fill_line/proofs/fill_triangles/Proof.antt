@@ -12,8 +12,11 @@ use Rattle.fill_line.proofs.fill_triangles.Statement.{statement}
 use Rattle.fill_line.proofs.fill_triangles.Tie as tie
 
 -- the places of the code, each from a later one
+abbrev begun : tie.After-zeros → tie.After-slice-known
+begun c = c .before .before
+
 abbrev start : tie.After-zeros → tie.Start
-start c = c .before .before .before .before
+start c = begun c .before .before
 
 abbrev lent : tie.After-cut-line → tie.After-zeros
 lent c = c .before .before .before
@@ -24,8 +27,11 @@ cut-at c = c .before .before .before
 abbrev accepted : tie.After-threes → tie.Else1
 accepted c = c .before .before
 
+abbrev shared : tie.After-write-multipolygon-arg → tie.After-coords3
+shared c = c .before .before .before
+
 abbrev counted : tie.After-write-multipolygon-arg → tie.After-threes
-counted c = c .before .before .before .before
+counted c = shared c .before
 
 abbrev written : tie.After-slice-known2 → tie.After-write-multipolygon
 written c = c .before .before
