@@ -179,6 +179,7 @@ pub triangles-written :
 triangles-written line out r f corners form ok rings e =
     let a = filled corners (length out) (sym (fill-first trianglesFor line out r f corners form) ∙ ok) .outline in
     let same : rings ≡ map (points corners) (map ringOf (a .triangles)) = fill-rings trianglesFor line out r f corners form ok rings e ∙ ap (map (points corners)) (triangles-are a) in
-    rw same
-    (each-map (points corners) (each-map ringOf (each-all (λ t. refl) (a .triangles))),
-    length-map (map ringOf (a .triangles)) (points corners) ∙ length-map (a .triangles) ringOf ∙ cut-count corners (a .triangles) (a .three) (a .is-cut))
+    rw same (
+      each-map (points corners) (each-map ringOf (each-all (λ t. refl) (a .triangles))),
+      length-map (map ringOf (a .triangles)) (points corners) ∙ length-map (a .triangles) ringOf ∙ cut-count corners (a .triangles) (a .three) (a .is-cut),
+    )
