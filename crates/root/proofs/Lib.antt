@@ -1,4 +1,6 @@
 pub mod Digits
+pub mod Numbers
+pub mod Remainder
 pub mod Shift
-pub mod Quotient
+pub mod Pattern
 pub mod Length

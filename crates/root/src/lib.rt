@@ -3,9 +3,10 @@ mod nearest_root;
 
 use grid::point::Point;
 use nearest_root::nearest_root;
+use nearest_root::try_guess;
 ghost use mathlib.Core.Path.{_≡_};
 ghost use mathlib.Core.Bool.{true};
-ghost use Prim.Native.Nat.{_^_, _≤_, _<_};
+ghost use Prim.Native.Nat.{_*_, _^_, _≤_, _<_};
 ghost use lib.Ieee.{binary32, mul, ofInt};
 ghost use Rattle.rules.specs.Plane.{minus};
 ghost use Rattle.rules.specs.Root.{Scaled, reciprocal as reciprocalOf, root as rootOf, pointiness as pointinessOf};
@@ -20,7 +21,17 @@ fn scale(m: u32) -> u32
     23 - (31 - u32::leading_zeros(m)) / 2
 }
 
-// The root of m: k / 2^j, an exact quotient.
+// m * 4^j, which is shifted in 32 bits first.
+fn scaled(m: u32, j: u32) -> u64
+    requires { ⌜ 0 < m ⌝ }
+    requires { ⌜ m ≤ 2 ^ 23 ⌝ }
+    requires { ⌜ Scaled m j ⌝ }
+    ensures { λ n. ⌜ n ≡ m * 4 ^ j ⌝ }
+{
+    ((m << (2 * j - 16)) as u64) << 16
+}
+
+// The root of m: the f32 that is k / 2^j, with the 24 binary digits of k.
 pub fn root(m: u32) -> f32
     requires { ⌜ m ≤ 2 ^ 23 ⌝ }
     ensures { λ r. ⌜ r ≡ rootOf m ⌝ }
@@ -29,8 +40,17 @@ pub fn root(m: u32) -> f32
         return 0.0;
     }
     let j = scale(m);
-    let k = nearest_root((m as u64) << (2 * j));
-    k as f32 / (1u32 << j) as f32
+    let k = nearest_root(scaled(m, j));
+    f32::from_bits((149 - j) * 8388608 + k as u32)
+}
+
+// Whether the root of m is guessed, so that its digits are not worked out.
+pub fn is_guessed(m: u32) -> bool
+    requires { ⌜ 0 < m ⌝ }
+    requires { ⌜ m ≤ 2 ^ 23 ⌝ }
+{
+    let t = try_guess(scaled(m, scale(m)));
+    t.passed
 }
 
 // 1 / len of the vector from p to q.

@@ -1,4 +1,7 @@
 // The whole number nearest to a root: guessed, and where the guess is not it, worked out digit by digit.
+use hyperbolas::hyperbola_at;
+ghost use mathlib.Core.Path.{_≡_};
+ghost use mathlib.Core.Bool.{true};
 ghost use Prim.Native.Nat.{_^_, _≤_, _<_};
 ghost use Rattle.rules.specs.Root.{Nearest};
 
@@ -20,38 +23,33 @@ fn by_digits(n: u64) -> u64
     if k * k + k < n { k + 1 } else { k }
 }
 
-// The mean of g and n / g, which is nearer to the root of n than g.
-fn nearer(n: u64, g: u64) -> u64
-    requires { ⌜ n < 2 ^ 48 ⌝ }
-    ensures { λ r. ⌜ r < 2 ^ 48 ⌝ }
-{
-    if g == 0 {
-        return 0;
-    }
-    if g < 281474976710656 {
-        (g + n / g) / 2
-    } else {
-        0
-    }
-}
-
-// About the root of n, and less than 2^25. The start is a parabola along the roots, within a hundredth of each.
+// About the root of n less a half, a whole number.
 fn guess(n: u64) -> u64
     requires { ⌜ n < 2 ^ 48 ⌝ }
-    ensures { λ r. ⌜ r < 2 ^ 25 ⌝ }
+    ensures { λ g. ⌜ g < 2 ^ 25 ⌝ }
 {
-    let t = n / 1073741824;
-    let start = 4350000 + t * (4288 - t / 203) / 64;
-    let g = nearer(n, nearer(n, start));
-    if g < 33554432 { g } else { 0 }
+    let h = hyperbola_at(n >> 41);
+    let x = h.1 / (n as f64 + h.2) + h.0;
+    f64::to_bits(x) % 33554432
 }
 
-// g, and one more where the rest says so.
-fn rounded(n: u64, g: u64) -> u64
-    requires { ⌜ g < 2 ^ 25 ⌝ }
-    ensures { λ r. ⌜ r ≤ 2 ^ 25 ⌝ }
+pub struct Tried {
+    pub root: u64,
+    pub passed: bool,
+}
+
+// The guess g or g + 1, and whether it is the nearest. How far n is below g*g + 3*g tells both: by less than 2*g if g + 1 is, by less
+// than 4*g if g is.
+pub fn try_guess(n: u64) -> Tried
+    requires { ⌜ n < 2 ^ 48 ⌝ }
+    ensures { λ r. ⌜ (r .passed ≡ true → Nearest n (r .root)) ⌝ }
 {
-    if g * g + g < n { g + 1 } else { g }
+    let g = guess(n);
+    let below = std::num::wrapping_sub_u64(g * g + 3 * g, n);
+    Tried {
+        root: if below < 2 * g { g + 1 } else { g },
+        passed: below < 4 * g,
+    }
 }
 
 pub fn nearest_root(n: u64) -> u64
@@ -59,11 +57,6 @@ pub fn nearest_root(n: u64) -> u64
     requires { ⌜ n < 2 ^ 48 ⌝ }
     ensures { λ k. ⌜ Nearest n k ⌝ }
 {
-    let k = rounded(n, guess(n));
-    if k * k < n + k {
-        if n <= k * k + k {
-            return k;
-        }
-    }
-    by_digits(n)
+    let t = try_guess(n);
+    if t.passed { t.root } else { by_digits(n) }
 }

@@ -2,14 +2,11 @@
 use mathlib.Core.Path.{_≡_, sym, ap, _∙_}
 use Prim.Native.Nat.{ℕ, _≤_, _<_}
 use native.Mathlib.Omega.{arith}
-use lib.Ieee.{binary32, ofBits}
+use lib.Ieee.{ofBits}
 use borrow.Author.Needs.{needs}
 use Rattle.rules.specs.Root.{root as rootOf}
 use Rattle.rules.proofs.Root.{root-zero}
-use Rattle.rules.proofs.Scale.{scale-high}
-use Rattle.root.proofs.Shift.{scaled-shl}
-use Rattle.grid.proofs.Value.{in-float}
-use Rattle.root.proofs.Quotient.{Parts, top-fits, power-fits, quotient}
+use Rattle.root.proofs.Pattern.{Parts, power-small, digits-fit, bits-fit, bits-no-nan, pattern}
 use Rattle.root.proofs.root.Statement.{statement}
 use Rattle.root.proofs.root.Tie as tie
 
@@ -20,48 +17,43 @@ returns c = sym (ap rootOf (c .if1 .taken) ∙ root-zero)
 scale-requires : tie.Need-scale-requires
 scale-requires c κs = search needs
 
+scaled-requires : tie.Need-scaled-requires
+scaled-requires c κs = search needs
+
+nearest-root-requires : tie.Need-nearest-root-requires
+nearest-root-requires c κs = rw (c .scaled .ensures) (c .before .scale .ensures .low, c .before .scale .ensures .high)
+
 some : (m : ℕ) → (m ≡ 0 → ⊥) → 0 < m
 some m h = omega arith
 
--- the power of four is at most 23
-power : (c : tie.After-scale) → c .scale .result ≤ 23
-power c = scale-high (c .before .before .args .m) (c .scale .result) (some (c .before .before .args .m) (c .before .if1 .left)) (c .scale .ensures)
-
-mul-nearest-root : tie.Need-mul-nearest-root
-mul-nearest-root c = omega (arith, power c)
-
-cast-nearest-root : tie.Need-cast-nearest-root
-cast-nearest-root c = search needs
-
-shl-nearest-root : tie.Need-shl-nearest-root
-shl-nearest-root c = omega (arith, power c)
-
-nearest-root-requires : tie.Need-nearest-root-requires
-nearest-root-requires c κs =
-    rw (scaled-shl (c .before .before .args .m) (c .scale .result) (c .scale .ensures)) (c .scale .ensures .low, c .scale .ensures .high)
-
--- what the two calls found
-parts : (c : tie.After-nearest-root) → Parts (c .before .before .before .args .m) (c .nearest-root .result) (c .before .scale .result)
+-- what the calls found
+parts : (c : tie.After-nearest-root) → Parts (c .before .before .before .before .args .m) (c .nearest-root .result) (c .before .before .scale .result)
 parts c =
-    let at-entry = c .before .before .before in
+    let then = c .before .before .before in
     record {
-      some = some (at-entry .args .m) (c .before .before .if1 .left);
-      most = at-entry .pre;
-      scaled = c .before .scale .ensures;
-      nearest = rw (scaled-shl (at-entry .args .m) (c .before .scale .result) (c .before .scale .ensures)) at (c .nearest-root .ensures);
+      some = some (then .before .args .m) (then .if1 .left);
+      most = then .before .pre;
+      scaled = c .before .before .scale .ensures;
+      nearest = rw (c .before .scaled .ensures) at (c .nearest-root .ensures);
     }
 
-int-to-float-result : tie.Need-int-to-float-result
-int-to-float-result c = in-float binary32 (c .before .nearest-root .result) (top-fits (parts (c .before)))
+sub-result : tie.Need-sub-result
+sub-result c = omega (arith, power-small (parts c))
 
-shl-result : tie.Need-shl-result
-shl-result c = omega (arith, power (c .before .before))
+mul-result : tie.Need-mul-result
+mul-result c = search needs
 
-int-to-float-result-2 : tie.Need-int-to-float-result-2
-int-to-float-result-2 c = in-float binary32 _ (power-fits (parts (c .before .before)))
+cast-result : tie.Need-cast-result
+cast-result c = omega (arith, digits-fit (parts c))
+
+add-result : tie.Need-add-result
+add-result c = omega (arith, bits-fit (parts c))
+
+float-from-bits-result : tie.Need-float-from-bits-result
+float-from-bits-result c = bits-no-nan (parts c)
 
 returns-2 : tie.Need-returns-2
-returns-2 c = quotient (parts (c .before .before))
+returns-2 c = pattern (parts c)
 
 pub root-spec : {M : Type 1} → statement M
 root-spec =
@@ -69,11 +61,11 @@ root-spec =
     (tie.spec
     returns
     scale-requires
-    mul-nearest-root
-    cast-nearest-root
-    shl-nearest-root
+    scaled-requires
     nearest-root-requires
-    int-to-float-result
-    shl-result
-    int-to-float-result-2
+    sub-result
+    mul-result
+    cast-result
+    add-result
+    float-from-bits-result
     returns-2)

@@ -1,39 +1,26 @@
--- `guess` meets its contract: the start is small.
-use Prim.Native.Nat.{ℕ, _-_, _*_, _/_, _^_, _≤_, _<_}
+-- `guess` meets its contract: the hyperbola's value is a number.
 use native.Mathlib.Omega.{arith}
-use native.Mathlib.Nat.{mul-le-mul}
+use lib.Ieee.{binary64}
 use borrow.Author.Needs.{needs}
+use Rattle.grid.proofs.Value.{in-float}
+use Rattle.root.proofs.Numbers.{whole-number, hyperbola-number}
 use Rattle.root.proofs.nearest_root.guess.Statement.{statement}
 use Rattle.root.proofs.nearest_root.guess.Tie as tie
 
-start-small : (n : ℕ) → n < 2 ^ 48 → n / 1073741824 * (4288 - n / 1073741824 / 203) ≤ 2 ^ 18 * 4288
-start-small n h =
-    let t : n / 1073741824 ≤ 2 ^ 18 = omega arith in
-    let b : 4288 - n / 1073741824 / 203 ≤ 4288 = omega arith in
-    mul-le-mul t b
+hyperbola-at-requires : tie.Need-hyperbola-at-requires
+hyperbola-at-requires c κs = search needs
 
-sub-start : tie.Need-sub-start
-sub-start c = search needs
+int-to-float-x : tie.Need-int-to-float-x
+int-to-float-x c = in-float binary64 (c .before .before .args .n) (omega (arith, c .before .before .pre))
 
-mul-start : tie.Need-mul-start
-mul-start c = omega (arith, start-small (c .args .n) (c .pre))
-
-add-start : tie.Need-add-start
-add-start c = omega (arith, start-small (c .args .n) (c .pre))
-
-nearer-requires : tie.Need-nearer-requires
-nearer-requires c κs = search needs
-
-nearer-requires-2 : tie.Need-nearer-requires-2
-nearer-requires-2 c κs = search needs
+float-to-bits-result : tie.Need-float-to-bits-result
+float-to-bits-result c =
+    let a = c .before .before .before .before in
+    let h = a .hyperbola-at in
+    hyperbola-number binary64 (h .result .0) (h .result .1) (h .result .2) _ (h .ensures .0) (h .ensures .1 .0) (h .ensures .1 .1) (whole-number binary64 (a .before .args .n))
 
 returns : tie.Need-returns
 returns c = search needs
 
-returns-2 : tie.Need-returns-2
-returns-2 c = search needs
-
 pub guess-spec : {M : Type 1} → statement M
-guess-spec =
-    tie.close
-    (tie.spec sub-start mul-start add-start nearer-requires nearer-requires-2 returns returns-2)
+guess-spec = tie.close (tie.spec hyperbola-at-requires int-to-float-x float-to-bits-result returns)
