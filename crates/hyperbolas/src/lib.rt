@@ -1,9 +1,9 @@
-// Hyperbolas along the square roots, from which a root is guessed. Row i is for the numbers n from i * 2^41 to (i + 1) * 2^41. There
+// Hyperbolas along the square roots, by which a root is guessed with one division. Row i is for n from i * 2^41 to (i + 1) * 2^41, where
 //     fall / (n + ahead) + level
-// is 2^52 and the root of n less a half; from row 32 on within a quarter. Near 2^52 a float has no place behind the point: the sum is
-// rounded to a whole number, which is in its lowest bits.
-// A row touches that curve at three places, and is otherwise free: who takes a guess tests it. The rows below 32 are asked by nobody. With
-// them every number of seven bits has a row of its own, and a row is found without a branch.
+// is 2^52 and the root of n less a half, from row 32 on within a quarter. A float of that size has no places behind the point: the sum is
+// rounded to a whole number, which its lowest bits hold.
+// A row meets the curve at three places of its stretch. Nothing but speed rests on its numbers, since a guess is tested. Nobody asks for a
+// row below 32: with them there is a row for every number of seven bits, and it is found without a branch.
 ghost use lib.Dec.{T};
 ghost use lib.Ieee.{neg};
 ghost use lib.Ieee.Positive.{positive};
