@@ -107,6 +107,24 @@ fn crate_fill(line: &[u8]) -> String {
     multipolygon(&areas.iter().map(|a| a.iter().map(corner).collect()).collect::<Vec<_>>())
 }
 
+/// The time of a million roots in milliseconds: each by itself, and each of a radicand that the root before it gives.
+fn million(root: fn(u32) -> f32) -> (f64, f64) {
+    let root = black_box(root);
+    let alone = time(|| (0..1000).for_each(|i| {
+        black_box(root(8388 * i));
+    }));
+    let chained = time(|| {
+        black_box((0..1000).fold(1, |m, _| (5 * m + root(m).to_bits()) % (1 << 23)));
+    });
+    (alone / 1000.0, chained / 1000.0)
+}
+
+fn measure_roots() {
+    let (ours, machine) = (million(ours::root), million(|m| (m as f32).sqrt()));
+    println!("A million roots: ours {:.1} ms, the machine's own square root {:.1} ms.", ours.0, machine.0);
+    println!("A million roots, each of a radicand that the one before it gives: ours {:.1} ms, the machine's own {:.1} ms.", ours.1, machine.1);
+}
+
 fn main() {
     println!("| outline | corners | job | ours, µs | the crate, µs | ours / the crate |");
     println!("|---|---:|---|---:|---:|---:|");
@@ -119,4 +137,6 @@ fn main() {
             }
         }
     }
+    println!();
+    measure_roots();
 }
