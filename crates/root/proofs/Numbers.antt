@@ -3,7 +3,7 @@ use mathlib.Core.Path.{_≡_}
 use mathlib.Core.Bool.{Bool, true, false, not, cond, Bool·beq, _&&_}
 use Prim.Native.Nat.{ℕ, zero, suc, _+_, _-_, _*_, _^_}
 use lib.Dec.{T, eqb, ltb}
-use lib.Ieee.{Float, nan, inf, fin, Format, prec, low, emax, unlike, up, down, neg, odd, units, round, sum, add, div, ofInt, isNan}
+use lib.Ieee.{Float, nan, inf, fin, Format, prec, low, emax, unlike, neg, odd, units, round, sum, add, div, ofInt, isNan}
 use lib.Ieee.Fits.{round-is}
 use lib.Ieee.Positive.{positive}
 use borrow.Author.Tests.{ne-eqb}

@@ -6,7 +6,7 @@ use native.Mathlib.Nat.{mul-assoc, mul-right-comm, mul-pos, mod-eq-of-lt}
 use native.Mathlib.Omega.{arith}
 use lib.Dec.{T}
 use lib.Pow.{high, low, pow-add, pow-pos}
-use lib.Ieee.{Float, nan, inf, fin, binary32, odd, ofBits, ofFields, nanBits, fits, up, down}
+use lib.Ieee.{Float, nan, inf, fin, binary32, odd, ofBits, ofFields, nanBits, up, down}
 use lib.Ieee.Bits.{ofBits-fits, nanBits-above}
 use lib.Ieee.Exact.{HasValue, odd-sign}
 use borrow.Author.Tests.{le-ltb, lt-leb, ne-eqb}

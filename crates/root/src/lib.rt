@@ -21,7 +21,7 @@ fn scale(m: u32) -> u32
     23 - (31 - u32::leading_zeros(m)) / 2
 }
 
-// m * 4^j, which is shifted in 32 bits first.
+// m * 4^j, shifted in 32 bits first: so the compiler knows that it has 48 bits at most, and a row of the table for each of them.
 fn scaled(m: u32, j: u32) -> u64
     requires { ⌜ 0 < m ⌝ }
     requires { ⌜ m ≤ 2 ^ 23 ⌝ }

@@ -23,7 +23,7 @@ fn by_digits(n: u64) -> u64
     if k * k + k < n { k + 1 } else { k }
 }
 
-// About the root of n less a half, a whole number.
+// About the root of n less a half: a whole number, in the lowest bits of a float near 2^52.
 fn guess(n: u64) -> u64
     requires { ⌜ n < 2 ^ 48 ⌝ }
     ensures { λ g. ⌜ g < 2 ^ 25 ⌝ }
@@ -38,8 +38,8 @@ pub struct Tried {
     pub passed: bool,
 }
 
-// The guess g or g + 1, and whether it is the nearest. How far n is below g*g + 3*g tells both: by less than 2*g if g + 1 is, by less
-// than 4*g if g is.
+// The guess g or g + 1, and whether it is the nearest. How far n is below g*g + 3*g tells both: less than 2*g if g + 1 is, less than 4*g
+// if g is, and more where n is above, since 2^64 is added there.
 pub fn try_guess(n: u64) -> Tried
     requires { ⌜ n < 2 ^ 48 ⌝ }
     ensures { λ r. ⌜ (r .passed ≡ true → Nearest n (r .root)) ⌝ }

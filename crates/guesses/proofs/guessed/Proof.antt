@@ -1,5 +1,4 @@
 -- `guessed` meets its contract: no more are guessed than have been asked.
-use mathlib.Core.Path.{_≡_}
 use mathlib.Core.Logic.{inl, inr}
 use Prim.Native.Nat.{ℕ, suc, _-_, _≤_, _<_}
 use native.Mathlib.Omega.{arith}

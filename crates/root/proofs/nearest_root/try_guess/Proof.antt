@@ -1,11 +1,9 @@
 -- `try_guess` meets its contract.
-use mathlib.Core.Path.{_≡_}
 use mathlib.Core.Logic.{inl, inr}
-use Prim.Native.Nat.{_+_, _*_, _<_}
+use Prim.Native.Nat.{_*_, _<_}
 use native.Mathlib.Omega.{arith}
 use borrow.Author.Needs.{needs}
 use borrow.Author.Tests.{ltb-true}
-use Rattle.rules.specs.Root.{Nearest}
 use Rattle.root.proofs.Remainder.{squared, up, stay}
 use Rattle.root.proofs.nearest_root.try_guess.Statement.{statement}
 use Rattle.root.proofs.nearest_root.try_guess.Tie as tie
