@@ -1,9 +1,9 @@
 // Hyperbolas along the square roots, by which a root is guessed with one division. Row i is for n from i * 2^41 to (i + 1) * 2^41, where
 //     fall / (n + ahead) + level
-// is 2^52 and the root of n less a half, from row 32 on within a quarter. A float of that size has no places behind the point: the sum is
-// rounded to a whole number, which its lowest bits hold.
-// A row meets the curve at three places of its stretch. Nothing but speed rests on its numbers, since a guess is tested. Nobody asks for a
-// row below 32: with them there is a row for every number of seven bits, and it is found without a branch.
+// is 2^52 and the root of n less a half, within a quarter. A float of that size has no places behind the point: the sum is rounded to a
+// whole number, which its lowest bits hold.
+// A row meets the curve at three places of its stretch. Nothing but speed rests on its numbers, since a guess is tested.
+// No n has a row below 32. With row 0 the compiler's table begins at 0 and holds every number of seven bits, so it is read without a branch.
 ghost use lib.Dec.{T};
 ghost use lib.Ieee.{neg};
 ghost use lib.Ieee.Positive.{positive};
@@ -18,37 +18,6 @@ pub fn hyperbola_at(i: u64) -> Hyperbola
 {
     match i {
         0 => Hyperbola(4503599630235261.0, -6.45415984639e18, 2.45417e12),
-        1 => Hyperbola(4503599632780187.0, -4.66548828654e19, 9.68458e12),
-        2 => Hyperbola(4503599634386813.0, -1.02147803954e20, 1.63680e13),
-        3 => Hyperbola(4503599635682639.0, -1.69999281676e20, 2.30010e13),
-        4 => Hyperbola(4503599636800373.0, -2.48308770412e20, 2.96179e13),
-        5 => Hyperbola(4503599637798301.0, -3.35842979856e20, 3.62276e13),
-        6 => Hyperbola(4503599638708376.0, -4.31718993538e20, 4.28333e13),
-        7 => Hyperbola(4503599639550465.0, -5.35271652870e20, 4.94368e13),
-        8 => Hyperbola(4503599640337859.0, -6.45967606699e20, 5.60387e13),
-        9 => Hyperbola(4503599641080031.0, -7.63375139790e20, 6.26396e13),
-        10 => Hyperbola(4503599641783991.0, -8.87131492826e20, 6.92398e13),
-        11 => Hyperbola(4503599642455094.0, -1.01692509785e21, 7.58394e13),
-        12 => Hyperbola(4503599643097560.0, -1.15248856144e21, 8.24386e13),
-        13 => Hyperbola(4503599643714773.0, -1.29358649935e21, 8.90375e13),
-        14 => Hyperbola(4503599644309502.0, -1.44001097041e21, 9.56362e13),
-        15 => Hyperbola(4503599644884060.0, -1.59158077649e21, 1.02235e14),
-        16 => Hyperbola(4503599645440298.0, -1.74810584060e21, 1.08833e14),
-        17 => Hyperbola(4503599645979920.0, -1.90945057757e21, 1.15431e14),
-        18 => Hyperbola(4503599646504332.0, -2.07547516686e21, 1.22029e14),
-        19 => Hyperbola(4503599647014753.0, -2.24605143316e21, 1.28627e14),
-        20 => Hyperbola(4503599647512245.0, -2.42106077971e21, 1.35225e14),
-        21 => Hyperbola(4503599647997744.0, -2.60039376432e21, 1.41823e14),
-        22 => Hyperbola(4503599648472006.0, -2.78392032013e21, 1.48420e14),
-        23 => Hyperbola(4503599648935911.0, -2.97160107141e21, 1.55018e14),
-        24 => Hyperbola(4503599649390046.0, -3.16331982478e21, 1.61616e14),
-        25 => Hyperbola(4503599649834937.0, -3.35896338685e21, 1.68213e14),
-        26 => Hyperbola(4503599650271252.0, -3.55851233320e21, 1.74811e14),
-        27 => Hyperbola(4503599650699346.0, -3.76183290078e21, 1.81408e14),
-        28 => Hyperbola(4503599651119787.0, -3.96891623584e21, 1.88006e14),
-        29 => Hyperbola(4503599651532852.0, -4.17963390886e21, 1.94603e14),
-        30 => Hyperbola(4503599651938974.0, -4.39395433460e21, 2.01200e14),
-        31 => Hyperbola(4503599652338551.0, -4.61185100302e21, 2.07798e14),
         32 => Hyperbola(4503599652731775.0, -4.83320141512e21, 2.14395e14),
         33 => Hyperbola(4503599653119053.0, -5.05801843309e21, 2.20993e14),
         34 => Hyperbola(4503599653500535.0, -5.28618240882e21, 2.27590e14),
@@ -144,6 +113,7 @@ pub fn hyperbola_at(i: u64) -> Hyperbola
         124 => Hyperbola(4503599677009205.0, -3.62399292905e22, 8.21333e14),
         125 => Hyperbola(4503599677208157.0, -3.66774270972e22, 8.27930e14),
         126 => Hyperbola(4503599677406317.0, -3.71166703595e22, 8.34527e14),
-        _ => Hyperbola(4503599677603696.0, -3.75576539733e22, 8.41124e14),
+        127 => Hyperbola(4503599677603696.0, -3.75576539733e22, 8.41124e14),
+        _ => Hyperbola(4503599652338551.0, -4.61185100302e21, 2.07798e14),
     }
 }
