@@ -63,7 +63,7 @@ module _ {m k j : ℕ} (p : Parts m k j) where
   abbrev t : ℕ
   t = k - 2 ^ 23
 
-  abbrev pub bits : ℕ
+  abbrev bits : ℕ
   bits = x * 8388608 + k
 
   field : x < 254

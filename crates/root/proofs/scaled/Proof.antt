@@ -2,13 +2,13 @@
 use native.Mathlib.Omega.{arith}
 use borrow.Author.Needs.{needs}
 use Prim.Native.Nat.{_≤_}
-use Rattle.rules.proofs.Scale.{scale-high}
-use Rattle.root.proofs.Shift.{power-some, scaled-shl}
+use Rattle.rules.proofs.Scale.{scale-low, scale-high}
+use Rattle.root.proofs.Shift.{scaled-shl}
 use Rattle.root.proofs.scaled.Statement.{statement}
 use Rattle.root.proofs.scaled.Tie as tie
 
-low : (c : tie.Start) → 8 ≤ c .args .j
-low c = power-some (c .args .m) (c .args .j) (c .pre .1 .0) (c .pre .1 .1)
+low : (c : tie.Start) → 12 ≤ c .args .j
+low c = scale-low (c .args .m) (c .args .j) (c .pre .1 .0) (c .pre .1 .1)
 
 high : (c : tie.Start) → c .args .j ≤ 23
 high c = scale-high (c .args .m) (c .args .j) (c .pre .0) (c .pre .1 .1)

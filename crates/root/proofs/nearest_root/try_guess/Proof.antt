@@ -40,8 +40,8 @@ returns c e =
     let s = c .before .before .before in
     let p : w .result < 4 * g .result = ltb-true (w .result) (4 * g .result) e in
     elim (c .if1 .came) [
-      | inl (i, t) ↦ rw t (up (s .args .n) (g .result) (w .result) (s .pre) (w .ensures) (g .ensures) p (i .taken))
-      | inr (i, t) ↦ rw t (stay (s .args .n) (g .result) (w .result) (s .pre) (w .ensures) (g .ensures) p (i .left))
+      | inl (i, t) ↦ rw t (up (s .args .n) (g .result) (w .result) (s .pre) (w .ensures) (g .ensures) p (omega (arith, i .taken)))
+      | inr (i, t) ↦ rw t (stay (s .args .n) (g .result) (w .result) (s .pre) (w .ensures) (g .ensures) p (omega (arith, i .left)))
     ]
 
 pub try-guess-spec : {M : Type 1} → statement M
