@@ -13,6 +13,8 @@ fn differ(entry: &str, inputs: &str, ours: &str, theirs: &str) -> ! {
 pub struct Linked {
     pub inputs: u64,
     pub accepted: u64,
+    /// Of those accepted, the cuts of outlines that pass a point twice.
+    pub twice: u64,
     pub filled: u64,
 }
 
@@ -47,6 +49,7 @@ impl Side for Linked {
         }
         self.inputs += 1;
         self.accepted += (r.number == 0) as u64;
+        self.twice += (r.number == 0 && expected::passes_twice(coords)) as u64;
         (r.number == 0).then(|| a.read()[..12 * r.count as usize].to_vec())
     }
 

@@ -1,7 +1,8 @@
-//! What must come back: the refusals in document 01's order, and on accepted input what the crate gives.
+//! What must come back: the refusals in document 01's order, and on accepted input what the crate gives; of a cut where a point is passed
+//! twice, what request M-103 gives.
 use crate::lent::{bytes_of, words};
 use crate::math::Vector;
-use crate::parry;
+use crate::{cutter, parry};
 
 #[repr(C)]
 #[derive(Clone, Copy, Debug, PartialEq, Eq)]
@@ -37,6 +38,22 @@ fn equal_neighbours(ps: &[Vector]) -> bool {
     (0..ps.len()).any(|i| ps[i] == ps[(i + 1) % ps.len()])
 }
 
+/// The crate's triangles, or those of the second cutter where a point is passed twice. Elsewhere both must be the same.
+fn cut(ps: &[Vector]) -> Option<Vec<[u32; 3]>> {
+    let second = cutter::cut(ps);
+    if cutter::repeats(ps) {
+        return second;
+    }
+    let first = parry::triangulate_ear_clipping(ps);
+    assert_eq!(first, second, "the crate's cut and the second cutter's of {ps:?}");
+    first
+}
+
+/// Whether the outline of these bytes passes a point twice.
+pub fn passes_twice(coords: &[u8]) -> bool {
+    cutter::repeats(&points(&floats(coords)))
+}
+
 pub fn triangulate_ear_clipping(coords: &[u8], indices: &mut [u8]) -> Answer {
     let fs = floats(coords);
     let ps = points(&fs);
@@ -58,7 +75,7 @@ pub fn triangulate_ear_clipping(coords: &[u8], indices: &mut [u8]) -> Answer {
     if indices.len() / 4 < 3 * (ps.len() - 2) {
         return refused(6);
     }
-    match parry::triangulate_ear_clipping(&ps) {
+    match cut(&ps) {
         None => refused(7),
         Some(triangles) => {
             let written = bytes_of(&triangles.concat());

@@ -3,6 +3,7 @@ use crate::expected::MOST;
 use crate::lent::{bytes_of, bytes_of_floats};
 use crate::random::Random;
 use crate::shapes::{coords, Outline, KINDS};
+use crate::slots;
 
 pub trait Side {
     /// The written bytes, where the cut is accepted.
@@ -68,8 +69,11 @@ pub fn short(side: &mut impl Side, i: usize) {
     }
 }
 
-/// Corners of any number up to the most and some more, of one of the shapes or at random.
+/// Corners of any number up to the most and some more, of one of the shapes or at random, or with slots.
 pub fn random_outline(r: &mut Random) -> Outline {
+    if r.below(4) == 0 {
+        return slots::random(r);
+    }
     let n = match r.below(8) {
         0 => 500 + r.below(20),
         1 | 2 => 16 + r.below(100),

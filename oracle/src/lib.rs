@@ -4,6 +4,7 @@ extern crate alloc;
 
 #[cfg(feature = "linked")]
 pub mod checks;
+pub mod cutter;
 pub mod expected;
 pub mod inputs;
 pub mod lent;
@@ -14,6 +15,7 @@ pub mod ours;
 pub mod random;
 pub mod records;
 pub mod shapes;
+pub mod slots;
 pub mod text;
 mod transformation;
 mod utils;

@@ -9,7 +9,16 @@ fn long(digits: usize, second: &str) -> Vec<u8> {
     format!("POLYGON (({many} 0, {second} 0, 1 1, {many} 0))").into_bytes()
 }
 
-/// Lines that tell neighbouring rules apart.
+/// The drawings in examples/.
+const EXAMPLES: [&str; 5] = [
+    include_str!("../../examples/cover.wkt"),
+    include_str!("../../examples/gasket.wkt"),
+    include_str!("../../examples/mirrored.wkt"),
+    include_str!("../../examples/slotted.wkt"),
+    include_str!("../../examples/square.wkt"),
+];
+
+/// Lines that tell neighbouring rules apart, and the examples.
 pub fn fixed() -> Vec<Vec<u8>> {
     #[rustfmt::skip]
     let texts = [
@@ -18,9 +27,11 @@ pub fn fixed() -> Vec<Vec<u8>> {
         "POLYGON ((0 0, 1024 0, 0 -1024, 0 0))", "POLYGON ((0 0, 1025 0, 0 4, 0 0))", "POLYGON ((0 0, -1025 0, 0 4, 0 0))", "POLYGON ((0 0, 0 0, 4 0, 0 0))",
         "POLYGON ((0 0, 0 4, 4 4, 4 0, 0 0))", "POLYGON ((0 0, 1 0, 2 0, 3 0, 0 0))", "POLYGON((0 0, 4 0, 0 4, 0 0))", "polygon ((0 0, 4 0, 0 4, 0 0))", "POLYGON ((0 0,4 0,0 4,0 0))",
         "POLYGON ((0  0, 4 0, 0 4, 0 0))", "POLYGON ((0\t0, 4 0, 0 4, 0 0))", "POLYGON ((0 0, 4 0, 0 4, 0 0)) ", "POLYGON ((0 0, 4 0, 0 4, 0 0))\r", "POLYGON ((0 0, 4 0, 0 4, 0 0), (1 1, 2 1, 1 2, 1 1))",
+        "POLYGON ((0 0, 1 0, 0 0, 0 1, 0 0))", "POLYGON ((0 0, 4 0, 4 4, 0 4, 4 0, 0 0))", "POLYGON ((0 0, 3 0, 3 3, 0 3, 0 0, 1 1, 1 2, 2 2, 2 1, 1 1, 0 0))",
         "POLYGON EMPTY", "POLYGON (())", "POLYGON ((", "POLYGON ((0 0, 4 0, 0 4, 0 0)", "", " ", "11",
     ];
     let mut lines: Vec<Vec<u8>> = texts.iter().map(|t| t.as_bytes().to_vec()).collect();
+    lines.extend(EXAMPLES.map(|text| text.trim_end().as_bytes().to_vec()));
     lines.push(long(4082, "1"));
     lines.push(long(4082, "10"));
     for (corners, end) in [(512, "0 0))"), (513, "0 0))"), (513, "0 0) )"), (514, "0 1))")] {

@@ -13,11 +13,14 @@ pub struct Records<F: FnMut(u64, &[u8])> {
     put: F,
     pub records: u64,
     pub inputs: u64,
+    pub accepted: u64,
+    /// Of those accepted, the cuts of outlines that pass a point twice.
+    pub twice: u64,
 }
 
 impl<F: FnMut(u64, &[u8])> Records<F> {
     pub fn new(put: F) -> Records<F> {
-        Records { put, records: 0, inputs: 0 }
+        Records { put, records: 0, inputs: 0, accepted: 0, twice: 0 }
     }
 
     fn record(&mut self, entry: u32, parts: [&[u8]; 4], number: u32, count: u32) {
@@ -35,6 +38,8 @@ impl<F: FnMut(u64, &[u8])> Side for Records<F> {
         let mut indices = vec![FILL; room];
         let a = expected::triangulate_ear_clipping(coords, &mut indices);
         self.record(1, [coords, &[], &indices, &[]], a.number, a.count);
+        self.accepted += (a.number == 0) as u64;
+        self.twice += (a.number == 0 && expected::passes_twice(coords)) as u64;
         (a.number == 0).then(|| indices[..12 * a.count as usize].to_vec())
     }
 

@@ -5,7 +5,6 @@ use entries::MOST_POINTS;
 use entries::wide_half;
 use entries::zeros;
 use grid::outline::outline_refusal;
-use grid::point::Point;
 use vertices::Pick;
 use vertices::clip;
 use vertices::lowest;
@@ -17,32 +16,10 @@ ghost use Prim.Native.Nat.{_+_, _-_, _*_, _≤_, _<_};
 ghost use lib.ListN.{length};
 ghost use Rattle.rules.specs.Grid.{pointsOf};
 ghost use Rattle.rules.specs.Limits.{mostPoints, mostIndices};
-ghost use Rattle.rules.specs.Plane.{same as sameOf};
 ghost use Rattle.rules.specs.Refusals.{offGrid, equalNeighbours, firstRefusal, beforeCutting};
-ghost use Rattle.grid.specs.Points.{onGridPt, ptOf};
 ghost use Rattle.vertices.specs.Vertices.{place};
 ghost use Rattle.ear_clipping.specs.Store.{put3};
 ghost use Rattle.ear_clipping.specs.Promise.{Written, Promise};
-
-fn same(a: Point, b: Point) -> bool
-    requires { ⌜ onGridPt a ≡ true ⌝ }
-    requires { ⌜ onGridPt b ≡ true ⌝ }
-    ensures { λ r. ⌜ r ≡ sameOf (ptOf a) (ptOf b) ⌝ }
-{
-    if b.x < a.x {
-        return false;
-    }
-    if a.x < b.x {
-        return false;
-    }
-    if b.y < a.y {
-        return false;
-    }
-    if a.y < b.y {
-        return false;
-    }
-    true
-}
 
 // Whether two ring neighbours are equal.
 fn equal_neighbours(coords: &[f32]) -> bool
@@ -56,13 +33,13 @@ fn equal_neighbours(coords: &[f32]) -> bool
     let mut i = 1;
     while i < n {
         let b = grid::point_at(coords, i);
-        if same(a, b) {
+        if a.same(b) {
             return true;
         }
         a = b;
         i += 1;
     }
-    same(a, first)
+    a.same(first)
 }
 
 // The number of the first refusal from 1 to 6 that applies, and 0 where none does.

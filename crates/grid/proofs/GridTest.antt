@@ -6,17 +6,18 @@ use native.Mathlib.Omega.{arith}
 use mathlib.Core.Bool.{Bool, true, false, not, cond, _&&_, _||_, Bool·beq}
 use lib.Dec.{T, ltb, eqb, leb·suc-suc, lit<, lit≤}
 use lib.IntN.{ℤ, pos, negsuc, pos-ne-negsuc, natAbs, _+ℤ_, _-ℤ_, +ℤ-negℤ-cancel}
+use lib.Signed.{leZ, ≤ℤ-refl}
 use lib.Pow.{pow-pos, pow-mono}
 use lib.Ieee.{Float, nan, inf, fin, binary32, up, down, size, nearest, units, round, sum, add, sub, eq, lt, level}
 use lib.Ieee.Digits.{size-lt, size-le}
 use lib.Ieee.Fits.{nearest-le, core, round-is, down-pos}
 use borrow.Author.Tests.{lt-ltb, le-ltb, le-leb, ltb-true, ltb-false, eq-eqb, eqb-true, eqb-false}
-use Rattle.algebra.proofs.Equal.{and-true-l}
+use Rattle.algebra.proofs.Equal.{T→true, and-true-l}
 use Rattle.algebra.proofs.Sizes.{natAbs-add}
 use Rattle.rules.specs.Limits.{gridEdge}
 use Rattle.rules.specs.Grid.{signed, wholeOf, onGrid}
 use Rattle.rules.proofs.GridSizes.{natAbs-signed}
-use Rattle.grid.proofs.Value.{Is, left-num, right-num, add-is, sub-is}
+use Rattle.grid.proofs.Value.{Is, add-is, sub-is, eq-is}
 use Rattle.grid.proofs.Turn.{grid-within}
 use lib.Ieee.Exact.{HasValue, units-val}
 
@@ -130,28 +131,8 @@ eq-whole (fin u n d) z s m e i h =
     ap (λ (y : ℕ). y % down e) x ∙ mul-mod-left (i .n) (down e)
 
 -- and two that are the same whole number are equal
-signs : (s t : Bool) (a D : ℕ) → signed s a ≡ signed t a → (Bool·beq s t || eqb (a * D) 0) ≡ true
-signs false false a D h = refl
-signs true true a D h = refl
-signs false true zero D h = rw zero-mul
-signs false true (suc a) D h = absurd (pos-ne-negsuc (suc a) a h)
-signs true false zero D h = rw zero-mul
-signs true false (suc a) D h = absurd (pos-ne-negsuc (suc a) a (sym h))
-
-level-same : (s t : Bool) (a b D : ℕ) → a ≡ b → signed s a ≡ signed t b → level s (a * D) t (b * D) ≡ true
-level-same s t a b D e h = rw (← e, eq-eqb (a * D) (a * D) refl) (signs s t a D (h ∙ ap (signed t) (sym e)))
-
 eq-same : (x y : Float) (z : ℤ) → Is x z → Is y z → eq x y ≡ true
-unfolding eq
-eq-same nan y z i j = absurd (i .value)
-eq-same (inf u) y z i j = absurd (i .value)
-eq-same (fin u m e) nan z i j = absurd (j .value)
-eq-same (fin u m e) (inf w) z i j = absurd (j .value)
-eq-same (fin u m e) (fin w n d) z i j =
-    let same : signed (i .s) (i .n) ≡ signed (j .s) (j .n) = i .whole ∙ sym (j .whole) in
-    let size : i .n ≡ j .n = sym (natAbs-signed (i .s) (i .n)) ∙ ap natAbs same ∙ natAbs-signed (j .s) (j .n) in
-    rw (i .value .0, j .value .0, left-num (m * up e) (i .n) (down e) (down d) (i .value .1), right-num (n * up d) (j .n) (down e) (down d) (j .value .1))
-    (level-same (i .s) (j .s) (i .n) (j .n) (down e * down d) size same)
+eq-same x y z i j = eq-is x y z z i j ∙ rw (T→true (leZ z z) (≤ℤ-refl z .le))
 
 -- ---- the test
 both : (s b w : Bool) → cond (not s || b) (cond (s || b) w false) false ≡ (w && b)

@@ -3,22 +3,38 @@
 -- The two steps of each law: the operation is its `sum`, `round` or `below` at the whole numbers themselves (`add-at`, `mul-at`, `lt-at`), and that is the operation of ℤ.
 use mathlib.Core.Path.{_≡_, refl, sym, ap, _∙_}
 use Prim.Native.Nat.{ℕ, zero, suc, _+_, _-_, _*_, _^_, _≤_, _<_, zero-le}
-use native.Mathlib.Nat.{mul-one, mul-assoc, mul-comm, mul-right-comm, mul-mul-mul-comm, add-mul, mul-sub, mul-pos, mul-zero, zero-mul, zero-add, le-trans, mul-le-mul, zero-lt-suc, mul-lt-mul-of-pos-right, mul-le-mul-right}
+use native.Mathlib.Nat.{mul-one, mul-assoc, mul-comm, mul-right-comm, mul-mul-mul-comm, add-mul, mul-sub, mul-pos, mul-zero, zero-mul, zero-add, add-comm, le-trans, mul-le-mul, zero-lt-suc, mul-lt-mul-of-pos-right, mul-le-mul-right}
 use native.Mathlib.Omega.{arith}
 use mathlib.Core.Logic.{_⊎_, inl, inr}
-use mathlib.Core.Bool.{Bool, true, false, not, cond, _&&_}
+use mathlib.Core.Bool.{Bool, true, false, not, cond, _&&_, and-true, and-false, and-comm}
 use lib.Dec.{T, eqb, ltb, le→leb, leb·suc-suc, leb·suc-zero}
 use lib.IntN.{ℤ, pos, negsuc, negℤ, natAbs, _+ℤ_, _-ℤ_, _*ℤ_}
-use lib.Signed.{ltZ}
-use lib.Ieee.{Float, nan, inf, fin, Format, binary32, prec, up, down, unlike, below, round, sum, add, sub, neg, mul, div, lt, ofInt, inFloat, inUnsigned, toUnsigned}
+use lib.Signed.{ltZ, leZ}
+use lib.Ieee.{Float, nan, inf, fin, Format, binary32, prec, up, down, unlike, below, round, sum, add, sub, neg, mul, div, lt, eq, level, ofInt, inFloat, inUnsigned, toUnsigned}
 use lib.Ieee.Fits.{down-pos}
 use lib.Ieee.Exact.{HasValue}
 use lib.Ieee.Back.{round-whole, unsigned-back}
 use lib.Ieee.Scale.{round-same}
-use borrow.Author.Tests.{ltb-true, ltb-false, lt-ltb, le-ltb, ne-eqb}
+use borrow.Author.Tests.{ltb-true, ltb-false, lt-ltb, le-ltb, eq-eqb, ne-eqb}
+use Rattle.algebra.proofs.Order.{leZ-not-ltZ}
 use Rattle.algebra.proofs.Sizes.{natAbs-sub, natAbs-mul}
 use Rattle.rules.specs.Grid.{signed}
 use Rattle.rules.proofs.GridSizes.{natAbs-signed}
+
+-- ---- two numbers are equal if neither is below the other
+
+eqb-by-order : (a b : ℕ) → eqb a b ≡ (not (ltb b a) && not (ltb a b))
+eqb-by-order a b = go (ltb b a) (ltb a b) refl refl
+  where
+    go : (t u : Bool) → ltb b a ≡ t → ltb a b ≡ u → eqb a b ≡ (not t && not u)
+    go true u e f = ne-eqb a b (λ h. omega (arith, ltb-true b a e))
+    go false true e f = ne-eqb a b (λ h. omega (arith, ltb-true a b f))
+    go false false e f = eq-eqb a b (omega (arith, ltb-false b a e, ltb-false a b f))
+
+both-zero : (a b : ℕ) → (eqb a b && eqb a 0) ≡ not (ltb 0 (a + b))
+both-zero zero zero = refl
+both-zero zero (suc b) = rw (ne-eqb 0 (suc b) (λ h. omega arith), lt-ltb 0 (0 + suc b) (omega arith))
+both-zero (suc a) b = rw (ne-eqb (suc a) 0 (λ h. omega arith), lt-ltb 0 (suc a + b) (omega arith)) (and-false (eqb (suc a) b))
 
 -- ---- the scale D of two fractions with one denominator goes out
 
@@ -54,6 +70,14 @@ below-scale false false a b D p = ltb-scale a b D p
 below-scale false true a b D p = refl
 below-scale true false a b D p = ap (λ (x : ℕ). ltb 0 x) (sym (add-mul a b D)) ∙ ap (λ (x : ℕ). ltb x ((a + b) * D)) (sym (zero-mul D)) ∙ ltb-scale 0 (a + b) D p
 below-scale true true a b D p = ltb-scale b a D p
+
+eqb-scale : (a b D : ℕ) → 0 < D → eqb (a * D) (b * D) ≡ eqb a b
+eqb-scale a b D p = eqb-by-order (a * D) (b * D) ∙ rw (ltb-scale a b D p, ltb-scale b a D p) (sym (eqb-by-order a b))
+
+level-scale : (s t : Bool) (a b D : ℕ) → 0 < D → level s (a * D) t (b * D) ≡ level s a t b
+level-scale s t a b D p =
+    let z : eqb (a * D) 0 ≡ eqb a 0 = ap (eqb (a * D)) (sym (zero-mul D)) ∙ eqb-scale a 0 D p in
+    rw (eqb-scale a b D p, z)
 
 -- ---- the operations at floats that hold whole numbers
 
@@ -113,6 +137,17 @@ lt-at (fin u m e) (fin z n d) s t a b v w =
     let D = down e * down d in
     rw (v .0, w .0, left-num (m * up e) a (down e) (down d) (v .1), right-num (n * up d) b (down e) (down d) (w .1))
     (below-scale s t a b D (mul-pos (down-pos e) (down-pos d)))
+
+pub eq-at : (x y : Float) (s t : Bool) (a b : ℕ) → HasValue x s a 1 → HasValue y t b 1 → eq x y ≡ level s a t b
+unfolding eq
+eq-at nan y s t a b v w = absurd v
+eq-at (inf u) y s t a b v w = absurd v
+eq-at (fin u m e) nan s t a b v w = absurd w
+eq-at (fin u m e) (inf z) s t a b v w = absurd w
+eq-at (fin u m e) (fin z n d) s t a b v w =
+    let D = down e * down d in
+    rw (v .0, w .0, left-num (m * up e) a (down e) (down d) (v .1), right-num (n * up d) b (down e) (down d) (w .1))
+    (level-scale s t a b D (mul-pos (down-pos e) (down-pos d)))
 
 -- ---- signs
 
@@ -189,6 +224,13 @@ below-is true true zero (suc b) = leb·suc-zero (suc b)
 below-is true true (suc a) zero = lt-ltb 0 (suc a) (omega arith)
 below-is true true (suc a) (suc b) = leb·suc-suc (suc b) a
 
+-- level is below neither way
+level-is : (s t : Bool) (a b : ℕ) → level s a t b ≡ (not (below t b s a) && not (below s a t b))
+level-is false false a b = and-true (eqb a b) ∙ eqb-by-order a b
+level-is false true a b = both-zero a b ∙ rw (add-comm a b) (sym (and-true (not (ltb 0 (b + a)))))
+level-is true false a b = both-zero a b
+level-is true true a b = and-true (eqb a b) ∙ eqb-by-order a b ∙ and-comm (not (ltb b a)) (not (ltb a b))
+
 -- ---- a float that is a whole number, with a zero of either sign
 
 pub record Is (x : Float) (z : ℤ) : Type 0 where
@@ -248,6 +290,11 @@ mul-is f x y a b i j h =
 
 pub lt-is : (x y : Float) (a b : ℤ) → Is x a → Is y b → lt x y ≡ ltZ a b
 lt-is x y a b i j = lt-at x y (i .s) (j .s) (i .n) (j .n) (i .value) (j .value) ∙ below-is (i .s) (j .s) (i .n) (j .n) ∙ cc (i .whole, j .whole)
+
+pub eq-is : (x y : Float) (a b : ℤ) → Is x a → Is y b → eq x y ≡ (leZ a b && leZ b a)
+eq-is x y a b i j =
+    eq-at x y (i .s) (j .s) (i .n) (j .n) (i .value) (j .value) ∙ level-is (i .s) (j .s) (i .n) (j .n)
+    ∙ rw (below-is (j .s) (i .s) (j .n) (i .n), below-is (i .s) (j .s) (i .n) (j .n), i .whole, j .whole, leZ-not-ltZ a b, leZ-not-ltZ b a)
 
 -- ---- the same with a bound on the size, which adds up and multiplies by itself
 

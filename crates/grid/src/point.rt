@@ -2,7 +2,7 @@
 ghost use mathlib.Core.Path.{_≡_};
 ghost use mathlib.Core.Bool.{true};
 ghost use lib.Ieee.{binary32, add, sub, mul, ofInt};
-ghost use Rattle.rules.specs.Plane.{minus};
+ghost use Rattle.rules.specs.Plane as Rules;
 ghost use Rattle.grid.specs.Points.{onGridPt, ptOf};
 
 pub struct Point {
@@ -11,6 +11,18 @@ pub struct Point {
 }
 
 impl Point {
+    // Whether both are one point of the grid.
+    pub fn same(self, o: Point) -> bool
+        requires { ⌜ onGridPt self ≡ true ⌝ }
+        requires { ⌜ onGridPt o ≡ true ⌝ }
+        ensures { λ r. ⌜ r ≡ Rules.same (ptOf self) (ptOf o) ⌝ }
+    {
+        if self.x == o.x {
+            return self.y == o.y;
+        }
+        false
+    }
+
     pub fn minus(self, o: Point) -> Point
         ensures { λ r. ⌜ (r .x ≡ sub binary32 (self .x) (o .x)) × (r .y ≡ sub binary32 (self .y) (o .y)) ⌝ }
     {
@@ -45,8 +57,8 @@ impl Point {
     pub fn side_from(self, o: Point) -> Point
         requires { ⌜ onGridPt self ≡ true ⌝ }
         requires { ⌜ onGridPt o ≡ true ⌝ }
-        ensures { λ r. ⌜ r .x ≡ ofInt binary32 (minus (ptOf self) (ptOf o) .x) ⌝ }
-        ensures { λ r. ⌜ r .y ≡ ofInt binary32 (minus (ptOf self) (ptOf o) .y) ⌝ }
+        ensures { λ r. ⌜ r .x ≡ ofInt binary32 (Rules.minus (ptOf self) (ptOf o) .x) ⌝ }
+        ensures { λ r. ⌜ r .y ≡ ofInt binary32 (Rules.minus (ptOf self) (ptOf o) .y) ⌝ }
     {
         Point {
             x: self.x + 0.0 - o.x,

@@ -3,6 +3,7 @@ pub mod Cases
 pub mod Coordinates
 pub mod Walks
 pub mod Points
+pub mod ByIndex
 pub mod GridSizes
 pub mod Turns
 pub mod Convex

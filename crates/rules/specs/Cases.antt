@@ -152,8 +152,12 @@ table =
     -- points beside the triangle of a corner, beyond its corners, and on its border, which block
     ∷ cut-into (whole (1 ∷ 3 ∷ 3 ∷ 4 ∷ 0 ∷ 2 ∷ 2 ∷ 4 ∷ 1 ∷ 4 ∷ [])) 9 3 (3 ∷ 4 ∷ 0 ∷ 3 ∷ 0 ∷ 1 ∷ 3 ∷ 1 ∷ 2 ∷ [])
     ∷ cut-into (whole (4 ∷ 1 ∷ 0 ∷ 4 ∷ 3 ∷ 2 ∷ 2 ∷ 4 ∷ 1 ∷ 4 ∷ [])) 9 3 (2 ∷ 3 ∷ 4 ∷ 1 ∷ 2 ∷ 4 ∷ 4 ∷ 0 ∷ 1 ∷ [])
-    -- a repeated point blocks
-    ∷ cut-refused (whole (0 ∷ 0 ∷ 4 ∷ 0 ∷ 4 ∷ 4 ∷ 0 ∷ 4 ∷ 4 ∷ 0 ∷ [])) 9 7
+    -- request M-103: a plate with a hole by a slot, in from its corner and back. Two points are passed twice and block no ear. Document 01's own rule
+    -- has them block, and gave 7 here and for the next
+    ∷ cut-into (whole (0 ∷ 0 ∷ 3 ∷ 0 ∷ 3 ∷ 3 ∷ 0 ∷ 3 ∷ 0 ∷ 0 ∷ 1 ∷ 1 ∷ 1 ∷ 2 ∷ 2 ∷ 2 ∷ 2 ∷ 1 ∷ 1 ∷ 1 ∷ [])) 24 8
+    (3 ∷ 4 ∷ 5 ∷ 3 ∷ 5 ∷ 6 ∷ 2 ∷ 3 ∷ 6 ∷ 2 ∷ 6 ∷ 7 ∷ 1 ∷ 2 ∷ 7 ∷ 1 ∷ 7 ∷ 8 ∷ 0 ∷ 1 ∷ 8 ∷ 9 ∷ 0 ∷ 8 ∷ [])
+    -- in along a line and back along it, round nothing: the last triangle is clockwise
+    ∷ cut-into (whole (0 ∷ 0 ∷ 4 ∷ 0 ∷ 4 ∷ 4 ∷ 0 ∷ 4 ∷ 4 ∷ 0 ∷ [])) 9 3 (2 ∷ 3 ∷ 4 ∷ 0 ∷ 1 ∷ 2 ∷ 4 ∷ 0 ∷ 2 ∷ [])
     -- corner 3 is cut, and then no ear is left: what was lent is as it was
     ∷ cut-refused (whole (2 ∷ 0 ∷ 0 ∷ 0 ∷ 0 ∷ 1 ∷ 1 ∷ 0 ∷ 1 ∷ 1 ∷ [])) 9 7
     -- four corners on a line

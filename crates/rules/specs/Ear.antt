@@ -1,37 +1,32 @@
--- Document 01, "The cutter's steps": a corner is either no ear, or an ear that carries its pointiness.
+-- Document 01, "The cutter's steps", with request M-103: a corner is either no ear, or an ear that carries its pointiness.
 use Prim.Native.Nat.{ℕ}
 use mathlib.Core.Bool.{Bool, cond, not, _&&_, _||_}
 use mathlib.Core.List.{List}
-use lib.Dec.{eqb}
-use lib.ListN.{length}
 use lib.Ieee.{Float}
-use Rattle.algebra.specs.Lists.{any, countFrom}
+use Rattle.algebra.specs.Lists.{any}
 use Rattle.algebra.specs.Rings.{Corner}
-use Rattle.rules.specs.Plane.{Pt, minus, inTriangle, point, turnsLeft}
+use Rattle.rules.specs.Plane.{Pt, same, minus, inTriangle, point, turnsLeft}
 use Rattle.rules.specs.Root.{pointiness}
 
 pub data Ear : Type 0 where
   none : Ear
   pointed : Float → Ear
 
--- i is one of the three corners, by index
-abbrev pub named : Corner ℕ → ℕ → Bool
-named c i = eqb i (c .before) || (eqb i (c .at) || eqb i (c .after))
+-- q is one of the points a, b and c, by its coordinates
+abbrev pub atCorner : Pt → Pt → Pt → Pt → Bool
+atCorner a b c q = same q a || (same q b || same q c)
 
--- point number i, which is q, is another point than the three corners, which are p1, p and p3, and is in their triangle. "Other" is by
--- index, so a repeated point blocks
-unfoldable pub blocks : Corner ℕ → Pt → Pt → Pt → ℕ → Pt → Bool
-blocks c p1 p p3 i q = not (named c i) && inTriangle p1 p p3 q
-
-abbrev pub blockedBy : List Pt → Corner ℕ → ℕ → Bool
-blockedBy ps c i = blocks c (point ps (c .before)) (point ps (c .at)) (point ps (c .after)) i (point ps i)
+-- q is in the triangle a, b, c, border included, and not at one of its corners (request M-103). Nothing is asked of its index, so a corner
+-- that an outline passes twice does not block
+unfoldable pub blocks : Pt → Pt → Pt → Pt → Bool
+blocks a b c q = inTriangle a b c q && not (atCorner a b c q)
 
 -- some point of the whole outline does, already cut ones included
 unfoldable pub blocked : List Pt → Corner ℕ → Bool
 unfolding blocks
-blocked ps c = any (blockedBy ps c) (countFrom 0 (length ps))
+blocked ps c = any (blocks (point ps (c .before)) (point ps (c .at)) (point ps (c .after))) ps
 
--- the turn of (before, corner, after) is left and no other point is in that triangle
+-- the turn of (before, corner, after) is left and no point blocks that triangle
 abbrev pub isEar : List Pt → Corner ℕ → Bool
 isEar ps c = turnsLeft ps (c .before) (c .at) (c .after) && not (blocked ps c)
 

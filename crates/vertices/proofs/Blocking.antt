@@ -1,18 +1,16 @@
 -- Which points block an ear, and the loop that asks all of them.
-use Prim.Native.Nat.{ℕ, suc, _+_, _-_, _≤_, _<_}
+use Prim.Native.Nat.{ℕ, _+_, _≤_, _<_}
 use mathlib.Core.Path.{_≡_, refl, sym, _∙_, ap}
 use mathlib.Core.Bool.{Bool, true, false, cond, not, _&&_, _||_}
 use mathlib.Core.List.{List}
 use native.Mathlib.Numerals.{add-one}
-use native.Mathlib.Omega.{arith}
-use native.Mathlib.Nat.{sub-zero}
-use borrow.Author.Tests.{eq-eqb, ne-eqb}
-use lib.Dec.{eqb}
-use lib.ListN.{length}
+use lib.IntN.{pos}
+use lib.ListN.{length, drop, drop-of-length-le}
+use lib.Seq.{drop-cons}
 use lib.Ieee.{Float}
-use Rattle.algebra.specs.Lists.{any, countFrom}
+use Rattle.algebra.specs.Lists.{any}
 use Rattle.algebra.specs.Rings.{Corner}
-use Rattle.rules.specs.Plane.{Pt, minus, turn, inTriangle, point, turnsLeft}
+use Rattle.rules.specs.Plane.{Pt, same, minus, turn, inTriangle, point, turnsLeft}
 use Rattle.rules.specs.Root.{pointiness}
 use Rattle.rules.specs.Ear as rules
 use Rattle.grid.specs.declared.point_in_triangle.Orientation.{Orientation}
@@ -21,70 +19,37 @@ use Rattle.grid.proofs.Turn.{ccw-left}
 use Rattle.vertices.specs.Ears.{fromEar, earOf}
 use Rattle.vertices.specs.declared.ear.Ear.the-variants.{No, Pointed}
 
--- ---- one point
+-- ---- one point, by the code's tests
 
-and-false : (t : Bool) → (t && false) ≡ false
-and-false true = refl
-and-false false = refl
-
-and-true : (t : Bool) → (t && true) ≡ t
-and-true true = refl
-and-true false = refl
-
-module _ (t : Corner ℕ) (a b c : Pt) (i : ℕ) (q : Pt) where
-  pub not-in : inTriangle a b c q ≡ false → false ≡ rules.blocks t a b c i q
-  unfolding rules.blocks
-  not-in e = sym (ap (λ (s : Bool). not (rules.named t i) && s) e ∙ and-false (not (rules.named t i)))
-
-  pub is-before : i ≡ t .before → false ≡ rules.blocks t a b c i q
-  unfolding rules.blocks
-  is-before e = rw (eq-eqb i (t .before) e)
-
-  module _ (not-before : i ≡ t .before → ⊥) where
-    pub is-at : i ≡ t .at → false ≡ rules.blocks t a b c i q
-    unfolding rules.blocks
-    is-at e = rw (ne-eqb i (t .before) not-before, eq-eqb i (t .at) e)
-
-    pub is-other : (i ≡ t .at → ⊥) → inTriangle a b c q ≡ true → not (eqb i (t .after)) ≡ rules.blocks t a b c i q
-    unfolding rules.blocks
-    is-other not-at e =
-        sym (ap (λ (s : Bool). not (rules.named t i) && s) e ∙ and-true (not (rules.named t i)) ∙ rw (ne-eqb i (t .before) not-before, ne-eqb i (t .at) not-at))
-
--- by the points of the outline
-blocks-is : (ps : List Pt) (t : Corner ℕ) (i : ℕ) (a b c q : Pt) → a ≡ point ps (t .before) → b ≡ point ps (t .at) → c ≡ point ps (t .after) → q ≡ point ps i → rules.blocks t a b c i q ≡ rules.blockedBy ps t i
-blocks-is ps t i a b c q e f g h = rw (e, f, g, h)
+pub by-tests :
+    (a b c q : Pt) {i s t u : Bool} → inTriangle a b c q ≡ i → same q a ≡ s → same q b ≡ t → same q c ≡ u → (i && not (s || (t || u))) ≡ rules.blocks a b c q
+unfolding rules.blocks
+by-tests a b c q e f g h = rw (← e, ← f, ← g, ← h)
 
 -- ---- all points: what is left to ask once those below i are passed
 
-unfoldable pub blockedFrom : List Pt → Corner ℕ → ℕ → Bool
-blockedFrom ps t i = any (rules.blockedBy ps t) (countFrom i (length ps - i))
+module _ (f : Pt → Bool) (ps : List Pt) (i : ℕ) (w : any f ps ≡ any f (drop i ps)) where
+  pub none-left : length ps ≤ i → false ≡ any f ps
+  none-left h = sym (w ∙ rw (drop-of-length-le ps h))
 
-module _ (ps : List Pt) (t : Corner ℕ) where
-  pub blocked-first : rules.blocked ps t ≡ blockedFrom ps t 0
-  unfolding rules.blocked blockedFrom
-  blocked-first = rw sub-zero
+  module _ (h : i < length ps) (q : Pt) (e : q ≡ point ps i) (s : Bool) (is : s ≡ f q) where
+    next : any f ps ≡ (s || any f (drop (i + 1) ps))
+    next = w ∙ rw (drop-cons ps i (record { x = pos 0; y = pos 0 }) h, ← e, ← is, add-one i)
 
-  pub blocked-end : (i : ℕ) → length ps ≤ i → rules.blocked ps t ≡ blockedFrom ps t i → false ≡ rules.blocked ps t
-  unfolding blockedFrom
-  blocked-end i h w = let e : length ps - i ≡ 0 = omega arith in sym (w ∙ rw e)
+    pub passes : s ≡ true → true ≡ any f ps
+    passes e = sym (next ∙ ap (λ (x : Bool). x || any f (drop (i + 1) ps)) e)
 
-  module _ (i : ℕ) (h : i < length ps) (a b c q : Pt) (ea : a ≡ point ps (t .before)) (eb : b ≡ point ps (t .at)) (ec : c ≡ point ps (t .after)) (eq : q ≡ point ps i)
-      (s : Bool) (is : s ≡ rules.blocks t a b c i q) (w : rules.blocked ps t ≡ blockedFrom ps t i) where
-    next : rules.blocked ps t ≡ (s || blockedFrom ps t (i + 1))
-    unfolding blockedFrom
-    next =
-        let e : length ps - i ≡ suc (length ps - (i + 1)) = omega arith in
-        w ∙ rw (e, ← add-one i) (ap (λ (x : Bool). x || any (rules.blockedBy ps t) (countFrom (i + 1) (length ps - (i + 1)))) (sym (is ∙ blocks-is ps t i a b c q ea eb ec eq)))
-
-    pub blocked-here : s ≡ true → true ≡ rules.blocked ps t
-    blocked-here e = sym (next ∙ ap (λ (x : Bool). x || blockedFrom ps t (i + 1)) e)
-
-    pub blocked-more : s ≡ false → rules.blocked ps t ≡ blockedFrom ps t (i + 1)
-    blocked-more e = next ∙ ap (λ (x : Bool). x || blockedFrom ps t (i + 1)) e
+    pub passed : s ≡ false → any f ps ≡ any f (drop (i + 1) ps)
+    passed e = next ∙ ap (λ (x : Bool). x || any f (drop (i + 1) ps)) e
 
 -- ---- the ear
 
 module _ (ps : List Pt) (t : Corner ℕ) where
+  pub blocked-is :
+      (a b c : Pt) → a ≡ point ps (t .before) → b ≡ point ps (t .at) → c ≡ point ps (t .after) → (s : Bool) → s ≡ any (rules.blocks a b c) ps → rules.blocked ps t ≡ s
+  unfolding rules.blocked
+  blocked-is a b c e f g s i = sym (i ∙ rw (e, f, g))
+
   pub left-is :
       (a b c : Pt) → a ≡ point ps (t .before) → b ≡ point ps (t .at) → c ≡ point ps (t .after) → (d : Orientation) → d ≡ orientation (turn a b c)
       → (s : Bool) → s ≡ isCcw d → turnsLeft ps (t .before) (t .at) (t .after) ≡ s

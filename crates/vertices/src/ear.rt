@@ -5,6 +5,7 @@ use grid::point_in_triangle::is_point_in_triangle;
 ghost use mathlib.Core.Path.{_≡_};
 ghost use mathlib.Core.Bool.{true, false};
 ghost use lib.ListN.{length};
+ghost use Rattle.algebra.specs.Lists.{any};
 ghost use Rattle.rules.specs.Grid.{pointsOf};
 ghost use Rattle.rules.specs.Ear as Rules;
 ghost use Rattle.rules.specs.Refusals.{offGrid};
@@ -23,40 +24,39 @@ pub struct Triangle {
     pub after: usize,
 }
 
-// Whether point number i, which is q, blocks the triangle with the points p1, p and p3.
-fn blocks(t: Triangle, p1: Point, p: Point, p3: Point, i: usize, q: Point) -> bool
+// Whether q blocks the triangle with the corners p1, p and p3: it is in it and at none of them. Few points are in it, so the corners are asked last.
+fn blocks(p1: Point, p: Point, p3: Point, q: Point) -> bool
     requires { ⌜ onGridPt p1 ≡ true ⌝ }
     requires { ⌜ onGridPt p ≡ true ⌝ }
     requires { ⌜ onGridPt p3 ≡ true ⌝ }
     requires { ⌜ onGridPt q ≡ true ⌝ }
-    ensures { λ r. ⌜ r ≡ Rules.blocks (cornerOf t) (ptOf p1) (ptOf p) (ptOf p3) i (ptOf q) ⌝ }
+    ensures { λ r. ⌜ r ≡ Rules.blocks (ptOf p1) (ptOf p) (ptOf p3) (ptOf q) ⌝ }
 {
     if is_point_in_triangle(q, p1, p, p3) {
-        if i == t.before {
+        if q.same(p1) {
             return false;
         }
-        if i == t.at {
+        if q.same(p) {
             return false;
         }
-        return i != t.after;
+        return !q.same(p3);
     }
     false
 }
 
-// Whether some point of the whole outline is in the triangle.
-fn blocked(coords: &[f32], t: Triangle) -> bool
+// Whether some point of the whole outline blocks that triangle.
+fn blocked(coords: &[f32], p1: Point, p: Point, p3: Point) -> bool
     requires { ⌜ offGrid (now coords) ≡ false ⌝ }
-    requires { ⌜ Within (length (pointsOf (now coords))) t ⌝ }
-    ensures { λ r. ⌜ r ≡ Rules.blocked (pointsOf (now (coords .entry))) (cornerOf t) ⌝ }
+    requires { ⌜ onGridPt p1 ≡ true ⌝ }
+    requires { ⌜ onGridPt p ≡ true ⌝ }
+    requires { ⌜ onGridPt p3 ≡ true ⌝ }
+    ensures { λ r. ⌜ r ≡ any (Rules.blocks (ptOf p1) (ptOf p) (ptOf p3)) (pointsOf (now (coords .entry))) ⌝ }
 {
-    let p1 = grid::point_at(coords, t.before);
-    let p = grid::point_at(coords, t.at);
-    let p3 = grid::point_at(coords, t.after);
     let n = coords.len() / 2;
     let mut i = 0;
     while i < n {
         let q = grid::point_at(coords, i);
-        if blocks(t, p1, p, p3, i, q) {
+        if blocks(p1, p, p3, q) {
             return true;
         }
         i += 1;
@@ -64,7 +64,7 @@ fn blocked(coords: &[f32], t: Triangle) -> bool
     false
 }
 
-// The ear at a corner: convex, and no other point in its triangle.
+// The ear at a corner: convex, and no point blocks its triangle.
 pub fn update_vertex(coords: &[f32], t: Triangle) -> Ear
     requires { ⌜ offGrid (now coords) ≡ false ⌝ }
     requires { ⌜ Within (length (pointsOf (now coords))) t ⌝ }
@@ -76,7 +76,7 @@ pub fn update_vertex(coords: &[f32], t: Triangle) -> Ear
     if !corner_direction(p1, p, p3).is_ccw() {
         return Ear::No;
     }
-    if blocked(coords, t) {
+    if blocked(coords, p1, p, p3) {
         return Ear::No;
     }
     Ear::Pointed(root::pointiness(p1, p, p3))

@@ -24,5 +24,6 @@ fn main() {
         let line = lines::random(&mut r);
         side.fill(&line, lines::room(&mut r, &line));
     }
-    println!("oracle: {} random inputs from seed {seed}, {} cuts of them accepted and {} lines filled: no difference", side.inputs, side.accepted, side.filled);
+    println!("oracle: {} random inputs from seed {seed}: no difference", side.inputs);
+    println!("oracle: of them {} cuts accepted, {} where a point is passed twice, and {} lines filled", side.accepted, side.twice, side.filled);
 }

@@ -5,6 +5,7 @@ use oracle::lent::{bytes_of, bytes_of_floats};
 use oracle::random::Random;
 use oracle::records::Records;
 use oracle::shapes::{coords, KINDS};
+use oracle::slots;
 use std::io::Write;
 
 /// An outline cut with this much room to spare, merged, and asked at a corner and beside it.
@@ -58,6 +59,9 @@ fn main() {
         outline(&mut side, &coords(&shape(30)), 0);
     }
     let mut r = Random::new(7);
+    for _ in 0..8 {
+        outline(&mut side, &coords(&slots::random(&mut r)), 0);
+    }
     for _ in 0..400 {
         let n = 3 + r.below(6);
         let floats: Vec<f32> = (0..2 * n).map(|_| r.within(-3, 3) as f32).collect();

@@ -2,14 +2,31 @@
 use mathlib.Core.Path.{_≡_, sym, _∙_}
 use borrow.Author.Tests.{not-true, not-false}
 use Rattle.rules.specs.Grid.{pointsOf}
+use Rattle.rules.specs.Ear as rules
 use Rattle.rules.specs.Plane.{turnsLeft}
 use Rattle.rules.proofs.Coordinates.{point-fits}
 use denote.Ref.{now}
 use Rattle.vertices.specs.Ears.{cornerOf}
-use Rattle.vertices.proofs.Blocking.{left-is, no-left, is-blocked, is-pointed}
+use Rattle.vertices.proofs.Blocking.{left-is, blocked-is, no-left, is-blocked, is-pointed}
 use borrow.Author.Needs.{needs}
 use Rattle.vertices.proofs.ear.update_vertex.Statement.{statement}
 use Rattle.vertices.proofs.ear.update_vertex.Tie as tie
+
+-- ---- ways back: to the first point, to the entry, to where all three points are read, to where the turn is known
+
+abbrev first : tie.After-point-at3 → tie.After-point-at
+first c = c .before .before
+
+abbrev start : tie.After-point-at3 → tie.Start
+start c = first c .before .before
+
+abbrev points : tie.After-is-ccw → tie.After-point-at3
+points c = c .before .before
+
+abbrev left-turn : tie.After-blocked → tie.After-is-ccw
+left-turn c = c .before .before
+
+-- ---- the points
 
 point-at-requires : tie.Need-point-at-requires
 point-at-requires c κs = (c .before .pre .0, point-fits _ _ (c .before .pre .1 .before))
@@ -26,24 +43,44 @@ corner-direction-requires c κs = (c .before .before .point-at .ensures .0, (c .
 is-ccw-requires : tie.Need-is-ccw-requires
 is-ccw-requires c κs = search needs
 
--- whether the corner turns left
-turned : (c : tie.After-is-ccw) → turnsLeft (pointsOf (now (c .before .before .before .before .before .before .args .coords))) (c .before .before .before .before .before .before .args .t .before) (c .before .before .before .before .before .before .args .t .at) (c .before .before .before .before .before .before .args .t .after) ≡ c .is-ccw .result
-turned c = left-is (pointsOf (now (c .before .before .before .before .before .before .args .coords))) (cornerOf (c .before .before .before .before .before .before .args .t)) _ _ _ (c .before .before .before .before .point-at .ensures .1) (c .before .before .before .point-at2 .ensures .1) (c .before .before .point-at3 .ensures .1) _ (c .before .corner-direction .ensures) _ (c .is-ccw .ensures)
+-- ---- the tests
+
+turned : (c : tie.After-is-ccw) → let a = start (points c) .args in turnsLeft (pointsOf (now (a .coords))) (a .t .before) (a .t .at) (a .t .after) ≡ c .is-ccw .result
+turned c =
+    let p = points c in
+    let a = start p .args in
+    left-is (pointsOf (now (a .coords))) (cornerOf (a .t)) _ _ _ (first p .point-at .ensures .1) (p .before .point-at2 .ensures .1) (p .point-at3 .ensures .1) _
+    (c .before .corner-direction .ensures) _ (c .is-ccw .ensures)
+
+asked : (c : tie.After-blocked) → let a = start (points (left-turn c)) .args in rules.blocked (pointsOf (now (a .coords))) (cornerOf (a .t)) ≡ c .blocked .result
+asked c =
+    let p = points (left-turn c) in
+    let a = start p .args in
+    blocked-is (pointsOf (now (a .coords))) (cornerOf (a .t)) _ _ _ (first p .point-at .ensures .1) (p .before .point-at2 .ensures .1) (p .point-at3 .ensures .1) _
+    (c .blocked .ensures)
 
 returns : tie.Need-returns
 returns c = no-left _ _ (turned (c .before) ∙ not-true _ (c .if1 .taken))
 
 blocked-requires : tie.Need-blocked-requires
-blocked-requires c κs = (c .before .before .before .before .before .before .before .pre .0, c .before .before .before .before .before .before .before .pre .1)
+blocked-requires c κs =
+    let p = points (c .before) in
+    (start p .pre .0, (first p .point-at .ensures .0, (p .before .point-at2 .ensures .0, p .point-at3 .ensures .0)))
 
 returns-2 : tie.Need-returns-2
-returns-2 c = is-blocked _ _ (turned (c .before .before .before) ∙ not-false _ (c .before .before .if1 .left)) (sym (c .before .blocked .ensures) ∙ c .if2 .taken)
+returns-2 c = is-blocked _ _ (turned (left-turn (c .before)) ∙ not-false _ (c .before .before .if1 .left)) (asked (c .before) ∙ c .if2 .taken)
 
 pointiness-requires : tie.Need-pointiness-requires
-pointiness-requires c κs = (c .before .before .before .before .before .before .before .point-at .ensures .0, (c .before .before .before .before .before .before .point-at2 .ensures .0, c .before .before .before .before .before .point-at3 .ensures .0))
+pointiness-requires c κs =
+    let p = points (left-turn (c .before)) in
+    (first p .point-at .ensures .0, (p .before .point-at2 .ensures .0, p .point-at3 .ensures .0))
 
 returns-3 : tie.Need-returns-3
-returns-3 c = is-pointed _ _ (turned (c .before .before .before .before) ∙ not-false _ (c .before .before .before .if1 .left)) (sym (c .before .before .blocked .ensures) ∙ c .before .if2 .left) _ _ _ (c .before .before .before .before .before .before .before .before .point-at .ensures .1) (c .before .before .before .before .before .before .before .point-at2 .ensures .1) (c .before .before .before .before .before .before .point-at3 .ensures .1) (c .pointiness .ensures)
+returns-3 c =
+    let b = c .before .before in
+    let p = points (left-turn b) in
+    is-pointed _ _ (turned (left-turn b) ∙ not-false _ (b .before .if1 .left)) (asked b ∙ c .before .if2 .left) _ _ _
+    (first p .point-at .ensures .1) (p .before .point-at2 .ensures .1) (p .point-at3 .ensures .1) (c .pointiness .ensures)
 
 pub update-vertex-spec : {M : Type 1} → statement M
 update-vertex-spec =

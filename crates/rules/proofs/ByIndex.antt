@@ -1,0 +1,32 @@
+-- On an outline that passes no point twice, points are equal where their numbers are; so what blocks an ear is what document 01 says.
+use Prim.Native.Nat.{ℕ, _<_}
+use mathlib.Core.Path.{_≡_, refl, ap, _∙_}
+use mathlib.Core.Bool.{Bool, true, false, not, _&&_}
+use mathlib.Core.List.{List}
+use native.Mathlib.Omega.{arith}
+use borrow.Author.Tests.{eqb-true, eqb-false}
+use lib.Dec.{eqb}
+use lib.IntN.{pos}
+use lib.ListN.{length}
+use Rattle.algebra.specs.Lists.{Distinct}
+use Rattle.algebra.specs.Rings.{Corner}
+use Rattle.algebra.proofs.Lists.{distinct-at}
+use Rattle.algebra.proofs.Counting.{any-numbered, any-within}
+use Rattle.rules.specs.Plane.{Pt, same, inTriangle, point}
+use Rattle.rules.specs.Ear.{blocks, blocked}
+use Rattle.rules.specs.ByIndex.{named, blockedByIndex}
+use Rattle.rules.proofs.Points.{equal→same, apart→not-same}
+
+module _ (ps : List Pt) (once : Distinct ps) where
+  same-number : (i j : ℕ) → i < length ps → j < length ps → same (point ps i) (point ps j) ≡ eqb i j
+  same-number i j h k = go (eqb i j) refl
+    where
+      go : (t : Bool) → eqb i j ≡ t → same (point ps i) (point ps j) ≡ t
+      go true e = equal→same (point ps i) (point ps j) (ap (point ps) (eqb-true i j e))
+      go false e = apart→not-same (point ps i) (point ps j) (λ q. eqb-false i j e (distinct-at (record { x = pos 0; y = pos 0 }) ps once i j h k q))
+
+  pub by-index : (c : Corner ℕ) → c .before < length ps → c .at < length ps → c .after < length ps → blocked ps c ≡ blockedByIndex ps c
+  unfolding blocked blocks blockedByIndex
+  by-index c hb ha hf =
+      any-numbered (record { x = pos 0; y = pos 0 }) _ ps ∙ any-within _ _ 0 (length ps)
+      (λ i h. let k : i < length ps = omega arith in rw (same-number i (c .before) k hb, same-number i (c .at) k ha, same-number i (c .after) k hf))
