@@ -1,22 +1,21 @@
 -- The test of a whole number with no remainder: x + C - C is x only at a whole x, for C = 1.5 * 2 ^ 23 and x between -1025 and 1025, since what lies from 2 ^ 23 to 2 ^ 24 rounds to a whole number.
 use mathlib.Core.Path.{_≡_, refl, sym, ap, _∙_, subst}
-use Prim.Native.Nat.{ℕ, zero, suc, _+_, _-_, _*_, _/_, _%_, _^_, _≤_, _<_, compare}
-use native.Mathlib.Nat.{mul-one, zero-mul, mul-assoc, mul-right-comm, mul-pos, le-trans, le-of-eq, lt-of-lt-of-le, lt-of-le-of-lt, lt-of-not-le, not-le-of-lt, mul-lt-mul-of-pos-right, mul-le-mul-right, div-lt-iff-lt-mul, mul-mod-left, le-of-suc-le-suc, le-div-iff-mul-le, eq-of-mul-eq-mul-right}
+use Prim.Native.Nat.{ℕ, suc, _+_, _-_, _*_, _/_, _%_, _^_, _≤_, _<_, compare}
+use native.Mathlib.Nat.{mul-one, mul-assoc, mul-right-comm, mul-pos, le-trans, le-of-eq, lt-of-lt-of-le, lt-of-le-of-lt, lt-of-not-le, not-le-of-lt, mul-lt-mul-of-pos-right, mul-le-mul-right, div-lt-iff-lt-mul, mul-mod-left, le-of-suc-le-suc, le-div-iff-mul-le, eq-of-mul-eq-mul-right}
 use native.Mathlib.Omega.{arith}
 use mathlib.Core.Bool.{Bool, true, false, not, cond, _&&_, _||_, Bool·beq}
 use lib.Dec.{T, ltb, eqb, leb·suc-suc, lit<, lit≤}
-use lib.IntN.{ℤ, pos, negsuc, pos-ne-negsuc, natAbs, _+ℤ_, _-ℤ_, +ℤ-negℤ-cancel}
+use lib.IntN.{ℤ, pos, negsuc, natAbs, _+ℤ_, _-ℤ_, +ℤ-negℤ-cancel}
 use lib.Signed.{leZ, ≤ℤ-refl}
 use lib.Pow.{pow-pos, pow-mono}
-use lib.Ieee.{Float, nan, inf, fin, binary32, up, down, size, nearest, units, round, sum, add, sub, eq, lt, level}
+use lib.Ieee.{Float, nan, inf, fin, binary32, up, down, size, nearest, units, round, sum, add, sub, eq, lt}
 use lib.Ieee.Digits.{size-lt, size-le}
 use lib.Ieee.Fits.{nearest-le, core, round-is, down-pos}
-use borrow.Author.Tests.{lt-ltb, le-ltb, le-leb, ltb-true, ltb-false, eq-eqb, eqb-true, eqb-false}
+use borrow.Author.Tests.{lt-ltb, le-ltb, le-leb, ltb-true, ltb-false, eqb-true, eqb-false}
 use Rattle.algebra.proofs.Equal.{T→true, and-true-l}
 use Rattle.algebra.proofs.Sizes.{natAbs-add}
 use Rattle.rules.specs.Limits.{gridEdge}
-use Rattle.rules.specs.Grid.{signed, wholeOf, onGrid}
-use Rattle.rules.proofs.GridSizes.{natAbs-signed}
+use Rattle.rules.specs.Grid.{wholeOf, onGrid}
 use Rattle.grid.proofs.Value.{Is, add-is, sub-is, eq-is}
 use Rattle.grid.proofs.Turn.{grid-within}
 use lib.Ieee.Exact.{HasValue, units-val}

@@ -1,6 +1,6 @@
 -- Floats that hold whole numbers: sums, differences, products and comparisons of them are those of ℤ.
 -- `HasValue x s n 1` says that the float x is finite, has the sign s and the size n. `Is x z` says that x is z in value, with a zero of either sign.
--- The two steps of each law: the operation is its `sum`, `round` or `below` at the whole numbers themselves (`add-at`, `mul-at`, `lt-at`), and that is the operation of ℤ.
+-- The two steps of each law: the operation is its `sum`, `round`, `below` or `level` at the whole numbers themselves (`add-at`, `mul-at`, `compared-at`), and that is the operation of ℤ.
 use mathlib.Core.Path.{_≡_, refl, sym, ap, _∙_}
 use Prim.Native.Nat.{ℕ, zero, suc, _+_, _-_, _*_, _^_, _≤_, _<_, zero-le}
 use native.Mathlib.Nat.{mul-one, mul-assoc, mul-comm, mul-right-comm, mul-mul-mul-comm, add-mul, mul-sub, mul-pos, mul-zero, zero-mul, zero-add, add-comm, le-trans, mul-le-mul, zero-lt-suc, mul-lt-mul-of-pos-right, mul-le-mul-right}
@@ -82,10 +82,10 @@ level-scale s t a b D p =
 -- ---- the operations at floats that hold whole numbers
 
 -- the two numerators, over the product of the denominators
-pub left-num : (x a de dd : ℕ) → x * 1 ≡ a * de → x * dd ≡ a * (de * dd)
+left-num : (x a de dd : ℕ) → x * 1 ≡ a * de → x * dd ≡ a * (de * dd)
 left-num x a de dd h = ap (λ (z : ℕ). z * dd) (sym (mul-one x) ∙ h) ∙ mul-assoc a de dd
 
-pub right-num : (y b de dd : ℕ) → y * 1 ≡ b * dd → y * de ≡ b * (de * dd)
+right-num : (y b de dd : ℕ) → y * 1 ≡ b * dd → y * de ≡ b * (de * dd)
 right-num y b de dd h = ap (λ (z : ℕ). z * de) (sym (mul-one y) ∙ h) ∙ mul-right-comm b dd de ∙ mul-assoc b de dd
 
 pub add-at : (f : Format) (x y : Float) (s t : Bool) (a b : ℕ) → HasValue x s a 1 → HasValue y t b 1 → add f x y ≡ sum f s a t b 1
@@ -127,27 +127,16 @@ div-at f (fin u m e) (fin z n d) s t a b p v w =
     rw (v .0, w .0, nz, left-num (m * up e) a (down e) (down d) (v .1), right-num (n * up d) b (down e) (down d) (w .1))
     (round-same f (unlike s t) (a * D) (b * D) a b (mul-pos p P) p (mul-assoc a D b ∙ ap (λ (x : ℕ). a * x) (mul-comm D b)))
 
-pub lt-at : (x y : Float) (s t : Bool) (a b : ℕ) → HasValue x s a 1 → HasValue y t b 1 → lt x y ≡ below s a t b
-unfolding lt
-lt-at nan y s t a b v w = absurd v
-lt-at (inf u) y s t a b v w = absurd v
-lt-at (fin u m e) nan s t a b v w = absurd w
-lt-at (fin u m e) (inf z) s t a b v w = absurd w
-lt-at (fin u m e) (fin z n d) s t a b v w =
+compared-at : (x y : Float) (s t : Bool) (a b : ℕ) → HasValue x s a 1 → HasValue y t b 1 → (lt x y ≡ below s a t b) × (eq x y ≡ level s a t b)
+unfolding lt eq
+compared-at nan y s t a b v w = absurd v
+compared-at (inf u) y s t a b v w = absurd v
+compared-at (fin u m e) nan s t a b v w = absurd w
+compared-at (fin u m e) (inf z) s t a b v w = absurd w
+compared-at (fin u m e) (fin z n d) s t a b v w =
     let D = down e * down d in
-    rw (v .0, w .0, left-num (m * up e) a (down e) (down d) (v .1), right-num (n * up d) b (down e) (down d) (w .1))
-    (below-scale s t a b D (mul-pos (down-pos e) (down-pos d)))
-
-pub eq-at : (x y : Float) (s t : Bool) (a b : ℕ) → HasValue x s a 1 → HasValue y t b 1 → eq x y ≡ level s a t b
-unfolding eq
-eq-at nan y s t a b v w = absurd v
-eq-at (inf u) y s t a b v w = absurd v
-eq-at (fin u m e) nan s t a b v w = absurd w
-eq-at (fin u m e) (inf z) s t a b v w = absurd w
-eq-at (fin u m e) (fin z n d) s t a b v w =
-    let D = down e * down d in
-    rw (v .0, w .0, left-num (m * up e) a (down e) (down d) (v .1), right-num (n * up d) b (down e) (down d) (w .1))
-    (level-scale s t a b D (mul-pos (down-pos e) (down-pos d)))
+    let P : 0 < D = mul-pos (down-pos e) (down-pos d) in
+    rw (v .0, w .0, left-num (m * up e) a (down e) (down d) (v .1), right-num (n * up d) b (down e) (down d) (w .1)) (below-scale s t a b D P, level-scale s t a b D P)
 
 -- ---- signs
 
@@ -289,11 +278,11 @@ mul-is f x y a b i j h =
     (record { s = u; n = i .n * j .n; value = round-whole f u (i .n * j .n) (rw size at h); whole = signed-mul (i .s) (j .s) (i .n) (j .n) ∙ (cc (i .whole, j .whole)) })
 
 pub lt-is : (x y : Float) (a b : ℤ) → Is x a → Is y b → lt x y ≡ ltZ a b
-lt-is x y a b i j = lt-at x y (i .s) (j .s) (i .n) (j .n) (i .value) (j .value) ∙ below-is (i .s) (j .s) (i .n) (j .n) ∙ cc (i .whole, j .whole)
+lt-is x y a b i j = compared-at x y (i .s) (j .s) (i .n) (j .n) (i .value) (j .value) .0 ∙ below-is (i .s) (j .s) (i .n) (j .n) ∙ cc (i .whole, j .whole)
 
 pub eq-is : (x y : Float) (a b : ℤ) → Is x a → Is y b → eq x y ≡ (leZ a b && leZ b a)
 eq-is x y a b i j =
-    eq-at x y (i .s) (j .s) (i .n) (j .n) (i .value) (j .value) ∙ level-is (i .s) (j .s) (i .n) (j .n)
+    compared-at x y (i .s) (j .s) (i .n) (j .n) (i .value) (j .value) .1 ∙ level-is (i .s) (j .s) (i .n) (j .n)
     ∙ rw (below-is (j .s) (i .s) (j .n) (i .n), below-is (i .s) (j .s) (i .n) (j .n), i .whole, j .whole, leZ-not-ltZ a b, leZ-not-ltZ b a)
 
 -- ---- the same with a bound on the size, which adds up and multiplies by itself

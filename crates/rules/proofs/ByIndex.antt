@@ -1,7 +1,7 @@
 -- On an outline that passes no point twice, points are equal where their numbers are; so what blocks an ear is what document 01 says.
 use Prim.Native.Nat.{ℕ, _<_}
 use mathlib.Core.Path.{_≡_, refl, ap, _∙_}
-use mathlib.Core.Bool.{Bool, true, false, not, _&&_}
+use mathlib.Core.Bool.{Bool, true, false}
 use mathlib.Core.List.{List}
 use native.Mathlib.Omega.{arith}
 use borrow.Author.Tests.{eqb-true, eqb-false}
@@ -12,9 +12,9 @@ use Rattle.algebra.specs.Lists.{Distinct}
 use Rattle.algebra.specs.Rings.{Corner}
 use Rattle.algebra.proofs.Lists.{distinct-at}
 use Rattle.algebra.proofs.Counting.{any-numbered, any-within}
-use Rattle.rules.specs.Plane.{Pt, same, inTriangle, point}
+use Rattle.rules.specs.Plane.{Pt, same, point}
 use Rattle.rules.specs.Ear.{blocks, blocked}
-use Rattle.rules.specs.ByIndex.{named, blockedByIndex}
+use Rattle.rules.specs.ByIndex.{blockedByIndex}
 use Rattle.rules.proofs.Points.{equal→same, apart→not-same}
 
 module _ (ps : List Pt) (once : Distinct ps) where

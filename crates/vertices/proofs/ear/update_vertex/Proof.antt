@@ -1,5 +1,5 @@
 -- `update_vertex` meets its contract.
-use mathlib.Core.Path.{_≡_, sym, _∙_}
+use mathlib.Core.Path.{_≡_, _∙_}
 use borrow.Author.Tests.{not-true, not-false}
 use Rattle.rules.specs.Grid.{pointsOf}
 use Rattle.rules.specs.Ear as rules
