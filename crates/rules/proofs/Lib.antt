@@ -3,7 +3,7 @@ pub mod Cases
 pub mod Coordinates
 pub mod Walks
 pub mod Points
-pub mod ByIndex
+pub mod Blocks
 pub mod GridSizes
 pub mod Turns
 pub mod Convex

@@ -1,5 +1,5 @@
 -- Document 01's own ear rule, before request M-103: "no other point" is by index, so that the three corners are left out by number and a point
--- that is passed twice blocks. The rule in force is `blocked` of `Ear`; on an outline that passes no point twice both are the same (`proofs/ByIndex`).
+-- that is passed twice blocks. The rule in force is `blocked` of `Ear`; on an outline that passes no point twice both are the same (`proofs/Blocks`).
 use Prim.Native.Nat.{ℕ}
 use mathlib.Core.Bool.{Bool, not, _&&_, _||_}
 use mathlib.Core.List.{List}
