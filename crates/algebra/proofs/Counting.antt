@@ -1,13 +1,12 @@
--- Laws of counting: n numbers from i on are n, within their bounds, and nothing stands twice; their first m are m numbers from i on. Searches by number.
+-- Laws of counting: n numbers from i on are n, within their bounds, and nothing stands twice; their first m are m numbers from i on.
 use Prim.Native.Nat.{ℕ, zero, suc, _+_, _≤_, _<_}
 use mathlib.Core.Path.{_≡_, refl, sym, ap, _∙_}
 use mathlib.Core.Logic.{_≢_}
-use mathlib.Core.Bool.{Bool, _||_}
 use mathlib.Core.List.{List, [], _∷_, _++_}
 use native.Mathlib.Nat.{add-zero}
 use native.Mathlib.Omega.{arith}
-use lib.ListN.{length, getD, take}
-use Rattle.algebra.specs.Lists.{Each, end, _&_, Distinct, empty, new, any, countFrom}
+use lib.ListN.{length, take}
+use Rattle.algebra.specs.Lists.{Each, end, _&_, Distinct, empty, new, countFrom}
 use Rattle.algebra.proofs.Lists.{each-imp}
 
 pub count-within : (i n : ℕ) → Each (λ j. (i ≤ j) × (j < i + n)) (countFrom i n)
@@ -40,17 +39,3 @@ count-take i (suc m) (suc n) h = ap (λ (l : List ℕ). i ∷ l) (count-take (su
 pub count-more : (i n : ℕ) → countFrom i (suc n) ≡ countFrom i n ++ ((i + n) ∷ [])
 count-more i zero = ap (λ (k : ℕ). k ∷ []) (sym (add-zero i))
 count-more i (suc n) = ap (λ (l : List ℕ). i ∷ l) (count-more (suc i) n ∙ ap (λ (k : ℕ). countFrom (suc i) n ++ (k ∷ [])) (omega arith))
-
--- ---- searches by number
-
-any-shift : (f : ℕ → Bool) (k n : ℕ) → any f (countFrom (suc k) n) ≡ any (λ i. f (suc i)) (countFrom k n)
-any-shift f k zero = refl
-any-shift f k (suc n) = ap (λ (t : Bool). f (suc k) || t) (any-shift f (suc k) n)
-
-pub any-numbered : {A : Type 0} (d : A) (f : A → Bool) (l : List A) → any f l ≡ any (λ i. f (getD l i d)) (countFrom 0 (length l))
-any-numbered d f [] = refl
-any-numbered d f (a ∷ l) = ap (λ (t : Bool). f a || t) (any-numbered d f l ∙ sym (any-shift (λ i. f (getD (a ∷ l) i d)) 0 (length l)))
-
-pub any-within : (f g : ℕ → Bool) (k n : ℕ) → ((i : ℕ) → i < k + n → f i ≡ g i) → any f (countFrom k n) ≡ any g (countFrom k n)
-any-within f g k zero e = refl
-any-within f g k (suc n) e = rw (e k (omega arith), any-within f g (suc k) n (λ i h. e i (omega arith)))

@@ -1,11 +1,10 @@
--- What blocks an ear, as request M-103 says it; and that this is document 01's own rule on an outline that passes no point twice, where points
--- are equal exactly if their numbers are.
+-- What blocks an ear, as request M-103 says it; and that this is document 01's own rule, in which "other" is by index, on an outline that passes
+-- no point twice, where points are equal exactly if their numbers are.
 use Prim.Native.Nat.{ℕ, _<_}
-use mathlib.Core.Path.{_≡_, refl, ap, _∙_}
+use mathlib.Core.Path.{_≡_, refl, ap}
 use mathlib.Core.Logic.{_⊎_, inl, inr, _≢_}
-use mathlib.Core.Bool.{Bool, true, false, not, and-true, and-false, or-true}
+use mathlib.Core.Bool.{Bool, true, false, not, _&&_, _||_, and-true, and-false, or-true}
 use mathlib.Core.List.{List}
-use native.Mathlib.Omega.{arith}
 use borrow.Author.Tests.{eqb-true, eqb-false}
 use lib.Dec.{eqb}
 use lib.IntN.{pos}
@@ -13,10 +12,8 @@ use lib.ListN.{length}
 use Rattle.algebra.specs.Lists.{Distinct}
 use Rattle.algebra.specs.Rings.{Corner}
 use Rattle.algebra.proofs.Lists.{distinct-at}
-use Rattle.algebra.proofs.Counting.{any-numbered, any-within}
 use Rattle.rules.specs.Plane.{Pt, same, inTriangle, point}
-use Rattle.rules.specs.Ear.{blocks, blocked}
-use Rattle.rules.specs.ByIndex.{blockedByIndex}
+use Rattle.rules.specs.Ear.{blocks}
 use Rattle.rules.proofs.Points.{equal→same, apart→not-same}
 
 -- ---- a point at a corner does not block; any other point in the triangle does, and one outside does not
@@ -42,8 +39,10 @@ module _ (ps : List Pt) (once : Distinct ps) where
       go true e = equal→same (point ps i) (point ps j) (ap (point ps) (eqb-true i j e))
       go false e = apart→not-same (point ps i) (point ps j) (λ q. eqb-false i j e (distinct-at (record { x = pos 0; y = pos 0 }) ps once i j h k q))
 
-  pub by-index : (c : Corner ℕ) → c .before < length ps → c .at < length ps → c .after < length ps → blocked ps c ≡ blockedByIndex ps c
-  unfolding blocked blocks blockedByIndex
-  by-index c hb ha hf =
-      any-numbered (record { x = pos 0; y = pos 0 }) _ ps ∙ any-within _ _ 0 (length ps)
-      (λ i h. let k : i < length ps = omega arith in rw (same-number i (c .before) k hb, same-number i (c .at) k ha, same-number i (c .after) k hf))
+  -- point number i blocks a corner's triangle if it is in it and i is none of the three corners
+  pub by-index :
+      (c : Corner ℕ) → c .before < length ps → c .at < length ps → c .after < length ps → (i : ℕ) → i < length ps
+      → blocks (point ps (c .before)) (point ps (c .at)) (point ps (c .after)) (point ps i)
+      ≡ (inTriangle (point ps (c .before)) (point ps (c .at)) (point ps (c .after)) (point ps i) && not (eqb i (c .before) || (eqb i (c .at) || eqb i (c .after))))
+  unfolding blocks
+  by-index c hb ha hf i h = rw (same-number i (c .before) h hb, same-number i (c .at) h ha, same-number i (c .after) h hf)

@@ -4,7 +4,6 @@ pub mod Grid
 pub mod Crossing
 pub mod Root
 pub mod Ear
-pub mod ByIndex
 pub mod Cut
 pub mod Choosing
 pub mod Merge

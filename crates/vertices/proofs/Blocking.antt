@@ -3,13 +3,12 @@ use Prim.Native.Nat.{ℕ, _+_, _≤_, _<_}
 use mathlib.Core.Path.{_≡_, refl, sym, _∙_, ap}
 use mathlib.Core.Bool.{Bool, true, false, cond, not, _&&_, _||_}
 use mathlib.Core.List.{List}
-use native.Mathlib.Numerals.{add-one}
 use lib.IntN.{pos}
 use lib.ListN.{length, drop, drop-of-length-le}
-use lib.Seq.{drop-cons}
 use lib.Ieee.{Float}
 use Rattle.algebra.specs.Lists.{any}
 use Rattle.algebra.specs.Rings.{Corner}
+use Rattle.algebra.proofs.Lists.{any-next}
 use Rattle.rules.specs.Plane.{Pt, same, minus, turn, inTriangle, point, turnsLeft}
 use Rattle.rules.specs.Root.{pointiness}
 use Rattle.rules.specs.Ear as rules
@@ -34,7 +33,7 @@ module _ (f : Pt → Bool) (ps : List Pt) (i : ℕ) (w : any f ps ≡ any f (dro
 
   module _ (h : i < length ps) (q : Pt) (e : q ≡ point ps i) (s : Bool) (is : s ≡ f q) where
     next : any f ps ≡ (s || any f (drop (i + 1) ps))
-    next = w ∙ rw (drop-cons ps i (record { x = pos 0; y = pos 0 }) h, ← e, ← is, add-one i)
+    next = w ∙ any-next (record { x = pos 0; y = pos 0 }) f ps i h ∙ rw (← e, ← is)
 
     pub passes : s ≡ true → true ≡ any f ps
     passes e = sym (next ∙ ap (λ (x : Bool). x || any f (drop (i + 1) ps)) e)

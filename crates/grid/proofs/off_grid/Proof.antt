@@ -3,11 +3,10 @@ use Prim.Native.Nat.{ℕ, _+_, _-_, _≤_, _<_}
 use mathlib.Core.Path.{_≡_, sym, _∙_}
 use mathlib.Core.Bool.{Bool, not, _||_, or-false, or-assoc}
 use mathlib.Core.List.{List}
-use native.Mathlib.Numerals.{add-one}
 use lib.ListN.{length, getD, drop, drop-of-length-le}
-use lib.Seq.{drop-cons}
 use lib.Ieee.{Float, nan}
 use borrow.Author.Needs.{needs}
+use Rattle.algebra.proofs.Lists.{any-next}
 use Rattle.rules.specs.Grid.{onGrid}
 use Rattle.rules.specs.Refusals.{offGrid}
 use Rattle.grid.proofs.off_grid.Statement.{statement}
@@ -15,7 +14,7 @@ use Rattle.grid.proofs.off_grid.Tie as tie
 
 part : (cs : List Float) (i : ℕ) → i < length cs → offGrid (drop i cs) ≡ (not (onGrid (getD cs i nan)) || offGrid (drop (i + 1) cs))
 unfolding offGrid
-part cs i h = rw (add-one, drop-cons cs i nan h)
+part cs i h = any-next nan _ cs i h
 
 more :
     (cs : List Float) (i : ℕ) → i < length cs → (off on off' : Bool) → on ≡ onGrid (getD cs i nan) → off' ≡ (off || not on)
