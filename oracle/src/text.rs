@@ -1,4 +1,4 @@
-//! What must come back of a line, from request M-101: read with Rust's own means, cut and merged by the crate, and written.
+//! What must come back of a line, from request M-101: read with Rust's own means, cut and merged as `expected` has it, and written.
 use crate::expected::{self, Answer};
 use crate::lent::{bytes_of, bytes_of_floats, words};
 
