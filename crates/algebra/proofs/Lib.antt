@@ -4,6 +4,7 @@ pub mod Order
 pub mod Sizes
 pub mod Equal
 pub mod Lists
+pub mod Bits
 pub mod Counting
 pub mod Sums
 pub mod Rings

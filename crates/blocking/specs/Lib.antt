@@ -1,0 +1,4 @@
+pub mod ByTurns
+pub mod InFloats
+pub mod Strips
+pub mod Outlined
