@@ -14,7 +14,7 @@ use Rattle.rules.specs.Limits.{mostPoints}
 use Rattle.rules.specs.Plane.{Pt, point}
 use Rattle.grid.specs.declared.point.Point.{Point}
 use Rattle.grid.specs.Points.{onGridPt, ptOf}
-use Rattle.blocking.specs.Outlined.{source, pointAt, Flat}
+use Rattle.blocking.specs.Outlined.{source, pointAt, Everywhere, Flat}
 
 pub source-front : (n k : ℕ) → k < n → source n k ≡ k
 source-front n k h = rw (lt-ltb k n h)
@@ -22,18 +22,21 @@ source-front n k h = rw (lt-ltb k n h)
 pub source-rest : (n k : ℕ) → n ≤ k → source n k ≡ 0
 source-rest n k h = rw (le-ltb k n h)
 
+pub everywhere : (v : Float) (xs : List Float) → xs ≡ replicate 512 v → Everywhere v xs
+everywhere v xs e = record { long = ap length e ∙ length-replicate 512 v; each = λ k l. ap (λ (x : List Float). getD x k nan) e ∙ getD-replicate 512 k v nan l }
+
 -- none is written
 pub none-flat :
-    (ps : List Pt) (p : Point) (xs ys : List Float) → onGridPt p ≡ true → ptOf p ≡ point ps 0 → xs ≡ replicate 512 (p .x) → ys ≡ replicate 512 (p .y) → Flat ps 0 xs ys
+    (ps : List Pt) (p : Point) (xs ys : List Float) → onGridPt p ≡ true → ptOf p ≡ point ps 0 → Everywhere (p .x) xs → Everywhere (p .y) ys → Flat ps 0 xs ys
 none-flat ps p xs ys g e f h = record {
-  long-x = ap length f ∙ length-replicate 512 (p .x);
-  long-y = ap length h ∙ length-replicate 512 (p .y);
+  long-x = f .long;
+  long-y = h .long;
   on = λ k l. ap onGridPt (there k l) ∙ g;
   at = λ k l. ap ptOf (there k l) ∙ e ∙ ap (point ps) (sym (source-rest 0 k (omega arith)));
 }
   where
     there : (k : ℕ) → k < mostPoints → pointAt xs ys k ≡ p
-    there k l = rw (f, h, getD-replicate 512 k (p .x) nan l, getD-replicate 512 k (p .y) nan l)
+    there k l = rw (f .each k l, h .each k l)
 
 -- one more
 pub one-flat :

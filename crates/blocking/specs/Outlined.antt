@@ -19,6 +19,10 @@ source n k = cond (ltb k n) k 0
 abbrev pub pointAt : List Float → List Float → ℕ → Point
 pointAt xs ys k = record { x = getD xs k nan; y = getD ys k nan }
 
+pub record Everywhere (v : Float) (xs : List Float) : Type 0 where
+  pub long : length xs ≡ mostPoints
+  pub each : (k : ℕ) → k < mostPoints → getD xs k nan ≡ v
+
 -- the first n of the points ps stand in flat coordinates
 pub record Flat (ps : List Pt) (n : ℕ) (xs ys : List Float) : Type 0 where
   pub long-x : length xs ≡ mostPoints

@@ -3,15 +3,15 @@
 ghost use mathlib.Core.Path.{_≡_};
 ghost use mathlib.Core.Bool.{false};
 ghost use Prim.Native.Nat.{_<_, _≤_};
-ghost use lib.ListN.{length, replicate};
+ghost use lib.ListN.{length};
 ghost use Rattle.rules.specs.Limits.{mostPoints};
 ghost use Rattle.rules.specs.Grid.{pointsOf};
 ghost use Rattle.rules.specs.Refusals.{offGrid};
-ghost use Rattle.blocking.specs.Outlined.{Flat};
+ghost use Rattle.blocking.specs.Outlined.{Everywhere, Flat};
 
 // One coordinate everywhere.
 pub fn filled(v: f32) -> [f32; 512]
-    ensures { λ r. ⌜ r ≡ replicate 512 v ⌝ }
+    ensures { λ r. ⌜ Everywhere v r ⌝ }
 {
     [v; 512]
 }

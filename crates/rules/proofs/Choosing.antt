@@ -31,7 +31,7 @@ module _ (ps : List Pt) where
 
   -- ---- what was found in the corners that were passed
 
-  data Found (passed : List (Corner ℕ)) : Choice → Type 0 where
+  data Found (passed : List (Corner ℕ)) : Choice (Corner ℕ) → Type 0 where
     no-ear-yet : EachEar ps passed (λ d g. ⊥) → Found passed nothing
     found : {c : Corner ℕ} {f : Float} → isNan f ≡ false → Pointiest ps passed c f → Found passed (best c f)
 
@@ -57,7 +57,7 @@ module _ (ps : List Pt) where
           highest = each-++ (h .highest) ((λ f i q. impossible (cc (less f i .1))) & end);
         }
 
-    step : (b : Choice) (e : Ear) → Found passed b → Each (λ d. d .at < c .at) passed → ((g : Float) → ear ps c ≡ pointed g → isNan g ≡ false) → ear ps c ≡ e → Found (passed ++ c ∷ []) (better b c e)
+    step : (b : Choice (Corner ℕ)) (e : Ear) → Found passed b → Each (λ d. d .at < c .at) passed → ((g : Float) → ear ps c ≡ pointed g → isNan g ≡ false) → ear ps c ≡ e → Found (passed ++ c ∷ []) (better b c e)
     unfolding better
     step nothing none (no-ear-yet h) l n i = no-ear-yet (each-++ h ((λ g j. impossible (cc)) & end))
     step (best d g) none (found m h) l n i = found m (kept h (λ f j. impossible (cc)))
@@ -71,7 +71,7 @@ module _ (ps : List Pt) where
         go true e = found (n f i) (taken f (n f i) i (each-imp (λ d k x j. le-trans x g f (k x j) e) (h .greatest)) l)
         go false e = found m (kept h (less e))
 
-  along : (passed : List (Corner ℕ)) (b : Choice) (cs : List (Corner ℕ)) → Found passed b → Each (λ d. Each (λ c. d .at < c .at) cs) passed → AscendingCorners cs → Numbers cs → Found (passed ++ cs) (choose ps b cs)
+  along : (passed : List (Corner ℕ)) (b : Choice (Corner ℕ)) (cs : List (Corner ℕ)) → Found passed b → Each (λ d. Each (λ c. d .at < c .at) cs) passed → AscendingCorners cs → Numbers cs → Found (passed ++ cs) (choose ps b cs)
   unfolding choose
   along passed b [] h l a n = rw (append-nil passed) h
   along passed b (c ∷ cs) h l (below u a) (n & ns) =
@@ -103,7 +103,7 @@ module _ (ps : List Pt) where
     pointiest-chosen : {c : Corner ℕ} {f : Float} → Pointiest ps cs c f → choose ps nothing cs ≡ best c f
     pointiest-chosen {c} {f} h = go choice-found
       where
-        go : {b : Choice} → Found cs b → b ≡ best c f
+        go : {b : Choice (Corner ℕ)} → Found cs b → b ≡ best c f
         go (no-ear-yet k) = absurd (each-of k (h .among) f (h .is-ear))
         go (found m k) = pointiest-unique a k h
 

@@ -37,7 +37,7 @@ cuts zero ps ring ts h = go (corners ring) refl
     go (c ∷ cs) e = let q : c ∷ [] ≡ ts = cc in subst (Cuts ps zero ring) q (three e)
 cuts (suc k) ps ring ts h = go (λ c. cuts k ps (without (c .at) ring)) (choose ps nothing (corners ring)) refl
   where
-    go : ((c : Corner ℕ) (us : List (Corner ℕ)) → cutRing k ps (without (c .at) ring) ≡ done us → Cuts ps k (without (c .at) ring) us) → (b : Choice) → choose ps nothing (corners ring) ≡ b → Cuts ps (suc k) ring ts
+    go : ((c : Corner ℕ) (us : List (Corner ℕ)) → cutRing k ps (without (c .at) ring) ≡ done us → Cuts ps k (without (c .at) ring) us) → (b : Choice (Corner ℕ)) → choose ps nothing (corners ring) ≡ b → Cuts ps (suc k) ring ts
     go rec nothing e = impossible (cc)
     go rec (best c f) e =
         let (us, i, q) = write-done c (cutRing k ps (without (c .at) ring)) ts (rw (e, cutRing) at h) in
@@ -50,11 +50,11 @@ cuts-length (one-more {k} e r) = omega (arith, cuts-length r)
 
 -- the ear that is chosen is one of the corners
 module _ (ps : List Pt) (Q : Corner ℕ → Type 0) where
-  data Chosen : Choice → Type 0 where
+  data Chosen : Choice (Corner ℕ) → Type 0 where
     none-yet : Chosen nothing
     chosen : {c : Corner ℕ} {f : Float} → Q c → ear ps c ≡ pointed f → Chosen (best c f)
 
-  better-chosen : (b : Choice) (c : Corner ℕ) (e : Ear) → Chosen b → Q c → ear ps c ≡ e → Chosen (better b c e)
+  better-chosen : (b : Choice (Corner ℕ)) (c : Corner ℕ) (e : Ear) → Chosen b → Q c → ear ps c ≡ e → Chosen (better b c e)
   unfolding better
   better-chosen b c none h q i = h
   better-chosen nothing c (pointed f) h q i = chosen q i
@@ -64,7 +64,7 @@ module _ (ps : List Pt) (Q : Corner ℕ → Type 0) where
       go true = chosen q i
       go false = h
 
-  choose-chosen : (b : Choice) (cs : List (Corner ℕ)) → Chosen b → Each Q cs → Chosen (choose ps b cs)
+  choose-chosen : (b : Choice (Corner ℕ)) (cs : List (Corner ℕ)) → Chosen b → Each Q cs → Chosen (choose ps b cs)
   unfolding choose
   choose-chosen b [] h end = h
   choose-chosen b (c ∷ cs) h (q & qs) = choose-chosen (better b c (ear ps c)) cs (better-chosen b c (ear ps c) h q refl) qs

@@ -5,11 +5,13 @@ use mathlib.Core.Path.{_≡_, refl, sym, subst}
 use mathlib.Core.Logic.{_≢_}
 use mathlib.Core.Bool.{Bool, true, false, cond}
 use mathlib.Core.List.{List, [], _∷_}
+use native.Mathlib.Omega.{arith}
 use native.Mathlib.Nat.{le-trans}
 use lib.Dec.{lit≤}
 use lib.IntN.{ℤ, pos, natAbs}
 use lib.Pow.{pow-pos, pow-mono}
-use lib.Ieee.{Float, nan, inf, fin, binary32, add, mul, div, ofInt, isNan}
+use lib.Ieee.{Float, nan, inf, fin, binary32, up, down, add, mul, div, le, ofInt, isNan}
+use lib.Ieee.Fits.{down-pos}
 use lib.Ieee.Scale.{finite}
 use Rattle.algebra.specs.Lists.{Each}
 use Rattle.algebra.specs.Reify.{reify}
@@ -24,6 +26,7 @@ use Rattle.rules.specs.Refusals.{offGrid}
 use Rattle.rules.specs.Root.{nearestRoot, scale, root, reciprocal, pointiness}
 use Rattle.rules.proofs.Bounded.{Bounded, bounded-finite, int-bounded, mul-bounded, add-bounded, inverse-bounded}
 use Rattle.rules.proofs.Ears.{ear-left}
+use Rattle.rules.proofs.FloatOrder.{passed→le}
 use Rattle.rules.proofs.GridSizes.{GridPoint, grid-points, grid-point-at, Side, side, squareOf, square-small, square-some}
 use Rattle.rules.proofs.Root.{root-exists, root-value}
 use Rattle.rules.proofs.Scale.{scale-high}
@@ -112,3 +115,15 @@ finite-number (fin s m e) h = refl
 
 pub ear-number : (cs : List Float) → offGrid cs ≡ false → (c : Corner ℕ) (f : Float) → ear (pointsOf cs) c ≡ pointed f → isNan f ≡ false
 ear-number cs grid c f is-ear = finite-number f (ear-finite cs grid c f is-ear)
+
+-- and above -2^24
+above-lowest : (x : Float) → Bounded (2 ^ 23) x → (t : Bool) → le x (fin true 1 (pos 24)) ≡ t → t ≡ false
+unfolding le
+above-lowest nan w t h = absurd w
+above-lowest (inf s) w t h = absurd w
+above-lowest (fin s m e) w false h = refl
+above-lowest (fin false m e) w true h = let (a, b) = passed→le false (m * up e * 1) true (16777216 * down e) h in absurd (omega (arith, down-pos e))
+above-lowest (fin true m e) w true h = let a = passed→le true (m * up e * 1) true (16777216 * down e) h in absurd (omega (arith, down-pos e))
+
+pub ear-above : (cs : List Float) → offGrid cs ≡ false → (c : Corner ℕ) (f : Float) → ear (pointsOf cs) c ≡ pointed f → le f (fin true 1 (pos 24)) ≡ false
+ear-above cs grid c f is-ear = above-lowest f (ear-bounded (pointsOf cs) (grid-points cs grid) c f is-ear) (le f (fin true 1 (pos 24))) refl

@@ -47,7 +47,7 @@ module _ (ps : List Pt) where
   some-chosen c f [] e = impossible (cc)
   some-chosen c f (d ∷ cs) e =
       let (d', g, q) = better-stays c d f (ear ps d) in
-      some-chosen d' g cs (ap (λ (b : Choice). choose ps b cs) (sym q) ∙ e)
+      some-chosen d' g cs (ap (λ (b : Choice (Corner ℕ)). choose ps b cs) (sym q) ∙ e)
 
   no-ears : (cs : List (Corner ℕ)) → choose ps nothing cs ≡ nothing → Each (λ c. ear ps c ≡ none) cs
   unfolding choose better
@@ -82,7 +82,7 @@ module _ (ps : List Pt) where
     where
       go :
           ((r : List ℕ) → length r ≡ k + 3 → Distinct r → cutRing k ps r ≡ stuck → NoEarLeft ps r)
-          → (b : Choice) → choose ps nothing (corners ring) ≡ b → NoEarLeft ps ring
+          → (b : Choice (Corner ℕ)) → choose ps nothing (corners ring) ≡ b → NoEarLeft ps ring
       go rec nothing i = record { met = ring; is-met = at-first; four = omega arith; no-ear = no-ears ps (corners ring) i }
       go rec (best c f) i =
           let at = chosen-in ps (Place ring) (places ring) i .0 in

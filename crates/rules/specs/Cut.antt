@@ -10,19 +10,20 @@ use Rattle.algebra.specs.Rings.{Corner, corners}
 use Rattle.rules.specs.Plane.{Pt}
 use Rattle.rules.specs.Ear.{Ear, none, pointed, ear}
 
-pub data Choice : Type 0 where
-  nothing : Choice
-  best : Corner ℕ → Float → Choice
+-- among corners, or what stands for them
+pub data Choice (A : Type 0) : Type 0 where
+  nothing : Choice A
+  best : A → Float → Choice A
 
 -- the better of what was found so far and one corner more: of equals the later
-unfoldable pub better : Choice → Corner ℕ → Ear → Choice
+unfoldable pub better : {A : Type 0} → Choice A → A → Ear → Choice A
 unfolding le
 better b c none = b
 better nothing c (pointed f) = best c f
 better (best d g) c (pointed f) = cond (le g f) (best c f) (best d g)
 
 -- the ear of greatest pointiness, of equals the highest index, as the corners stand in ascending order
-unfoldable pub choose : List Pt → Choice → List (Corner ℕ) → Choice
+unfoldable pub choose : List Pt → Choice (Corner ℕ) → List (Corner ℕ) → Choice (Corner ℕ)
 unfolding better ear
 choose ps b [] = b
 choose ps b (c ∷ cs) = choose ps (better b c (ear ps c)) cs

@@ -1,0 +1,49 @@
+-- `better_of` meets its contract.
+use Prim.Native.Nat.{ℕ}
+use mathlib.Core.Path.{_≡_, refl, sym, ap, ap₂, _∙_}
+use mathlib.Core.Bool.{Bool, true, false, cond}
+use Rattle.rules.specs.Ear as rules
+use Rattle.rules.specs.Cut.{Choice, nothing, better}
+use Rattle.winners.specs.Keys.{toEar, earIn, decode, BetterOf}
+use Rattle.winners.specs.declared.Ear.{Ear}
+use Rattle.winners.specs.declared.Entry.{Entry}
+use Rattle.winners.proofs.Nodes.{better-entry}
+use borrow.Author.Needs.{needs}
+use Rattle.winners.proofs.better_of.Statement.{statement}
+use Rattle.winners.proofs.better_of.Tie as tie
+use Rattle.winners.proofs.better_of.Reads as reads
+use Rattle.winners.proofs.better_of.Lts as lts
+use Rattle.winners.proofs.ear_of.Reads as ear-of-reads
+use Rattle.winners.proofs.takes_later.Reads as takes-later-reads
+
+-- by the ears that the keys stand for
+taken :
+    (a b r : Entry) (e f : Ear) (t : Bool) → toEar e ≡ earIn (a .key) → toEar f ≡ earIn (b .key)
+    → ((i j : ℕ) → better (better nothing i (toEar e)) j (toEar f) ≡ cond t (better nothing j (toEar f)) (better nothing i (toEar e))) → r ≡ cond t b a → BetterOf a b r
+unfolding decode
+taken a b r e f t p q w s = better-entry a b r t (rw (p, q) at (w (a .corner) (b .corner))) s
+
+ear-of-requires : tie.Need-ear-of-requires
+ear-of-requires c κs = search needs
+
+ear-of-requires-2 : tie.Need-ear-of-requires-2
+ear-of-requires-2 c κs = search needs
+
+takes-later-requires : tie.Need-takes-later-requires
+takes-later-requires c κs = search needs
+
+returns : tie.Need-returns
+returns c =
+    let told = c .before in
+    let s = told .before .before .before in
+    taken (s .args .a) (s .args .b) _ (told .before .before .ear-of .result) (told .before .ear-of2 .result) true (told .before .before .ear-of .ensures) (told .before .ear-of2 .ensures) (rw (c .if1 .taken) at (told .takes-later .ensures)) refl
+
+returns-2 : tie.Need-returns-2
+returns-2 c =
+    let told = c .before in
+    let s = told .before .before .before in
+    taken (s .args .a) (s .args .b) _ (told .before .before .ear-of .result) (told .before .ear-of2 .result) false (told .before .before .ear-of .ensures) (told .before .ear-of2 .ensures) (rw (c .if1 .left) at (told .takes-later .ensures)) refl
+
+pub better-of-spec : {M : Type 1} → statement M
+better-of-spec =
+    tie.close (tie.spec ear-of-requires ear-of-requires-2 takes-later-requires returns returns-2)

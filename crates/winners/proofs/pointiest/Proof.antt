@@ -1,0 +1,70 @@
+-- `pointiest` meets its contract.
+use Prim.Native.Nat.{ℕ}
+use mathlib.Core.Path.{_≡_, refl, sym, ap, _∙_}
+use mathlib.Core.List.{List}
+use lib.ListN.{getD}
+use lib.Ieee.{Float, nan}
+use denote.Ref.{now}
+use Rattle.rules.specs.Ear as rules
+use Rattle.winners.specs.Keys.{toEar, earIn, pickOf, rootOf}
+use Rattle.winners.specs.declared.Ear.{Ear}
+use Rattle.winners.specs.declared.Ear.the-variants.{No, Pointed}
+use Rattle.winners.specs.declared.Pick.the-variants.{Nothing, At}
+use borrow.Author.Needs.{needs}
+use Rattle.winners.proofs.pointiest.Statement.{statement}
+use Rattle.winners.proofs.pointiest.Tie as tie
+use Rattle.winners.proofs.pointiest.Reads as reads
+use Rattle.winners.proofs.pointiest.Lts as lts
+use Rattle.winners.proofs.ear_of.Reads as ear-of-reads
+use Rattle.winners.proofs.wide.Reads as wide-reads
+
+module _ (val : List Float) (win : List ℕ) (e : Ear) (h : toEar e ≡ earIn (getD val 1 nan)) where
+  none : e ≡ No → Nothing ≡ rootOf val win
+  unfolding rootOf
+  none q = ap (λ (x : rules.Ear). pickOf x (getD win 1 0)) (ap toEar (sym q) ∙ h)
+
+  some : (v : Float) → e ≡ Pointed v → (i : ℕ) → i ≡ getD win 1 0 → At i ≡ rootOf val win
+  unfolding rootOf
+  some v q i w = ap At w ∙ ap (λ (x : rules.Ear). pickOf x (getD win 1 0)) (ap toEar (sym q) ∙ h)
+
+element-copy-out-ear-of : tie.Need-element-copy-out-ear-of
+element-copy-out-ear-of c = search needs
+
+ear-of-requires : tie.Need-ear-of-requires
+ear-of-requires c κs = search needs
+
+enum-told : tie.Need-enum-told
+enum-told c = search needs
+
+enum-told-2 : tie.Need-enum-told-2
+enum-told-2 c = search needs
+
+element-copy-out-wide : tie.Need-element-copy-out-wide
+element-copy-out-wide c = search needs
+
+wide-requires : tie.Need-wide-requires
+wide-requires c κs = search needs
+
+returns : tie.Need-returns
+returns c =
+    let s = c .before .before .before .before .args in
+    none (now (s .val)) (now (s .win)) (c .before .before .ear-of .result) (c .before .before .ear-of .ensures) (c .enum-told .given .1)
+
+returns-2 : tie.Need-returns-2
+returns-2 c =
+    let s = c .before .before .before .before .before .before .args in
+    let told = c .before .before .before .before in
+    some (now (s .val)) (now (s .win)) (told .ear-of .result) (told .ear-of .ensures) _ (c .before .before .enum-told2 .given .1) _ (c .wide .ensures)
+
+pub pointiest-spec : {M : Type 1} → statement M
+pointiest-spec =
+    tie.close
+    (tie.spec
+    element-copy-out-ear-of
+    ear-of-requires
+    enum-told
+    enum-told-2
+    element-copy-out-wide
+    wide-requires
+    returns
+    returns-2)
