@@ -54,7 +54,7 @@ pub fn is_guessed(m: u32) -> bool
 }
 
 // 1 / len of the vector from p to q.
-fn reciprocal(q: Point, p: Point) -> f32
+pub fn reciprocal(q: Point, p: Point) -> f32
     requires { ⌜ onGridPt q ≡ true ⌝ }
     requires { ⌜ onGridPt p ≡ true ⌝ }
     ensures { λ r. ⌜ r ≡ reciprocalOf (minus (ptOf q) (ptOf p)) ⌝ }
@@ -64,25 +64,27 @@ fn reciprocal(q: Point, p: Point) -> f32
     1.0 / root(square as u32)
 }
 
-// The vector from p to q by the reciprocal of its length.
-fn direction(q: Point, p: Point) -> Point
+// The vector from p to q by r, the reciprocal of its length.
+fn direction(q: Point, p: Point, r: f32) -> Point
     requires { ⌜ onGridPt q ≡ true ⌝ }
     requires { ⌜ onGridPt p ≡ true ⌝ }
+    requires { ⌜ r ≡ reciprocalOf (minus (ptOf q) (ptOf p)) ⌝ }
     ensures { λ v. ⌜ v .x ≡ mul binary32 (ofInt binary32 (minus (ptOf q) (ptOf p) .x)) (reciprocalOf (minus (ptOf q) (ptOf p))) ⌝ }
     ensures { λ v. ⌜ v .y ≡ mul binary32 (ofInt binary32 (minus (ptOf q) (ptOf p) .y)) (reciprocalOf (minus (ptOf q) (ptOf p))) ⌝ }
 {
-    let r = reciprocal(q, p);
     q.side_from(p).scaled(r)
 }
 
-// The pointiness of the corner p between q, the one before it, and s, the one after it.
-pub fn pointiness(q: Point, p: Point, s: Point) -> f32
+// The pointiness of the corner p between q, the one before it, and s, the one after it, from the reciprocals of the lengths to both.
+pub fn pointiness(q: Point, p: Point, s: Point, before: f32, after: f32) -> f32
     requires { ⌜ onGridPt q ≡ true ⌝ }
     requires { ⌜ onGridPt p ≡ true ⌝ }
     requires { ⌜ onGridPt s ≡ true ⌝ }
+    requires { ⌜ before ≡ reciprocalOf (minus (ptOf q) (ptOf p)) ⌝ }
+    requires { ⌜ after ≡ reciprocalOf (minus (ptOf s) (ptOf p)) ⌝ }
     ensures { λ r. ⌜ r ≡ pointinessOf (minus (ptOf q) (ptOf p)) (minus (ptOf s) (ptOf p)) ⌝ }
 {
-    let v = direction(q, p);
-    let w = direction(s, p);
+    let v = direction(q, p, before);
+    let w = direction(s, p, after);
     v.dot(w)
 }

@@ -1,7 +1,7 @@
 -- An ear's pointiness is a finite number, at most 2^23 in size: the corner differs from its neighbours, as the turn is left, so both roots are at least 1
 -- and their reciprocals at most 1; on the grid a product is then at most 2^22, and the sum of two at most 2^23.
 use Prim.Native.Nat.{ℕ, _*_, _^_, _≤_}
-use mathlib.Core.Path.{_≡_, refl, sym, subst}
+use mathlib.Core.Path.{_≡_, refl, sym, ap, _∙_, subst}
 use mathlib.Core.Logic.{_≢_}
 use mathlib.Core.Bool.{Bool, true, false, cond}
 use mathlib.Core.List.{List, [], _∷_}
@@ -37,6 +37,12 @@ use Rattle.rules.proofs.Turns.{coordinates}
 pub reciprocal-is : (d : Pt) → reciprocal d ≡ div binary32 (fin false 1 (pos 0)) (root (natAbs (squareOf d)))
 unfolding reciprocal
 reciprocal-is d = refl
+
+-- a length is the same both ways
+pub reciprocal-back : (p q : Pt) → reciprocal (minus p q) ≡ reciprocal (minus q p)
+reciprocal-back p q =
+    let e : squareOf (minus p q) ≡ squareOf (minus q p) = ring (coordinates (p ∷ q ∷ [])) (search reify depth 12) (search reify depth 12) refl in
+    reciprocal-is (minus p q) ∙ ap (λ (z : ℤ). div binary32 (fin false 1 (pos 0)) (root (natAbs z))) e ∙ sym (reciprocal-is (minus q p))
 
 pub pointiness-is :
     (d e : Pt) → pointiness d e

@@ -7,13 +7,9 @@ use mathlib.Core.Path.{_≡_, refl, ap, _∙_}
 use mathlib.Core.Bool.{Bool, true, false, cond}
 use mathlib.Core.List.{List, [], _∷_}
 use borrow.Author.Tests.{eq-eqb, ne-eqb}
-use lib.ListN.{getD}
-use lib.Ieee as Ieee
-use lib.Ieee.{Float, nan}
+use Rattle.algebra.specs.Lists.{Each, end, _&_}
 use Rattle.rules.specs.Cut.{without}
-use Rattle.vertices.specs.Vertices.{Vertices, activeOf, those, betterOf, pickStep, pickFrom, lowestFrom}
-use Rattle.vertices.specs.declared.Pick.{Pick}
-use Rattle.vertices.specs.declared.Pick.the-variants.{Nothing, At}
+use Rattle.vertices.specs.Vertices.{those, lowestFrom}
 use Rattle.vertices.proofs.Links.{NotIn, Once, here, there}
 
 notin-cond : (i k : ℕ) (l : List ℕ) (t : Bool) → (k ≡ i → ⊥) → NotIn i l → NotIn i (cond t (k ∷ l) l)
@@ -60,26 +56,15 @@ module _ (o o' : ℕ → Bool) (i : ℕ) (off : o' i ≡ false) (others : (j : �
       go (yes q) ih = rw (ap o' q ∙ off, ap o q ∙ e, eq-eqb k i q) (those-same (suc k) m (omega arith))
       go (no q) ih = rw (others k q) (without-cond i k _ _ (o k) q (ih (omega arith)))
 
--- a pick is on
-abbrev pub PickOk : (ℕ → Bool) → ℕ → Pick → Type 0
-PickOk o n Nothing = Unit
-PickOk o n (At i v) = (i < n) × (o i ≡ true)
-
-pickok-cond : (o : ℕ → Bool) (n : ℕ) (t : Bool) (a b : Pick) → (t ≡ true → PickOk o n a) → PickOk o n b → PickOk o n (cond t a b)
-pickok-cond o n true a b f p = f refl
-pickok-cond o n false a b f p = p
-
-better-ok : (o : ℕ → Bool) (n : ℕ) (b : Pick) (i : ℕ) (v : Float) → i < n → o i ≡ true → PickOk o n b → PickOk o n (betterOf b i v)
-better-ok o n Nothing i v h e p = (h, e)
-better-ok o n (At j w) i v h e p = pickok-cond o n (Ieee.le w v) (At i v) (At j w) (λ q. (h, e)) p
-
-pub pick-ok : (s : Vertices) (n : ℕ) (b : Pick) (k m : ℕ) → k + m ≤ n → PickOk (activeOf s) n b → PickOk (activeOf s) n (pickFrom (s .active) (s .ears) (s .pointiness) b k m)
-unfolding pickFrom
-pick-ok s n b k zero h p = p
-pick-ok s n b k (suc m) h p =
-    pick-ok s n (pickStep (s .active) (s .ears) (s .pointiness) b k) (suc k) m (omega arith)
-    (pickok-cond (activeOf s) n (activeOf s k) (cond (getD (s .ears) k false) (betterOf b k (getD (s .pointiness) k nan)) b) b
-    (λ e. pickok-cond (activeOf s) n (getD (s .ears) k false) (betterOf b k (getD (s .pointiness) k nan)) b (λ q. better-ok (activeOf s) n b k (getD (s .pointiness) k nan) (omega arith) e p) p) p)
+-- those that are on are on
+pub each-on : (o : ℕ → Bool) (k m : ℕ) → Each (λ j. o j ≡ true) (those o k m)
+unfolding those
+each-on o k zero = end
+each-on o k (suc m) = go (o k) refl (each-on o (suc k) m)
+  where
+    go : (t : Bool) → o k ≡ t → Each (λ j. o j ≡ true) (those o (suc k) m) → Each (λ j. o j ≡ true) (cond t (k ∷ those o (suc k) m) (those o (suc k) m))
+    go true e h = e & h
+    go false e h = h
 
 -- the lowest that is on is the first of those that are
 pub data Lowest (o : ℕ → Bool) (k m : ℕ) : Type 0 where

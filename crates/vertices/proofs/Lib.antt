@@ -1,6 +1,7 @@
-pub mod Blocking
+pub mod IsEar
 pub mod Links
 pub mod Actives
-pub mod Picks
+pub mod Corners
 pub mod Steps
 pub mod Starts
+pub mod Picks

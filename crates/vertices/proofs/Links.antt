@@ -1,9 +1,11 @@
--- What unlinking does to the links.
-use Prim.Native.Nat.{ℕ, suc}
-use mathlib.Core.Path.{_≡_, refl, ap, sym, _∙_}
+-- What unlinking does to the links, and what links say of a corner's neighbours.
+use Prim.Native.Nat.{ℕ, suc, _≤_}
+use native.Mathlib.Omega.{arith}
+use mathlib.Core.Path.{_≡_, refl, ap, sym, _∙_, subst}
 use mathlib.Core.List.{List, [], _∷_, _++_, map}
 use lib.ListN.{length}
 use borrow.Author.Tests.{eq-eqb, ne-eqb}
+use Rattle.algebra.specs.Lists.{Each, end, _&_}
 use Rattle.algebra.specs.Rings.{corners, bends, lastOf}
 use Rattle.rules.specs.Cut.{without}
 use Rattle.vertices.specs.Vertices.{linkedCorner, Follows, Way, Links}
@@ -78,3 +80,61 @@ module _ (p n : ℕ → ℕ) where
   pub corners-map : (l : List ℕ) → Links p n l → corners l ≡ map (linkedCorner p n) l
   corners-map [] w = refl
   corners-map (a ∷ rest) w = from a (lastOf a rest) a rest (last a a rest w) w
+
+-- ---- both ends of each edge, and what holds of all corners of a ring holds of a corner's neighbours
+
+module _ (p n : ℕ → ℕ) where
+  closing : (close prev : ℕ) (l : List ℕ) → Way p n close prev l → n (p close) ≡ close
+  closing close prev [] w = ap n (w .1) ∙ w .0
+  closing close prev (b ∷ bs) w = closing close b bs (w .1)
+
+  starting : (close prev : ℕ) (l : List ℕ) → Way p n close prev l → p (n prev) ≡ prev
+  starting close prev [] w = ap p (w .0) ∙ w .1
+  starting close prev (b ∷ bs) w = ap p (w .0 .0) ∙ w .0 .1
+
+  to : (i close prev : ℕ) {l : List ℕ} → Once i l → Way p n close prev l → (n (p i) ≡ i) × (p (n i) ≡ i)
+  to i close prev (here {b} {bs} q nin) w =
+      let r : (n (p b) ≡ b) × (p (n b) ≡ b) = (ap n (w .0 .1) ∙ w .0 .0, starting close b bs (w .1)) in
+      rw q at r
+  to i close prev (there {b} {bs} q on) w = to i close b on (w .1)
+
+  pub ends : (i : ℕ) {l : List ℕ} → Once i l → Links p n l → (n (p i) ≡ i) × (p (n i) ≡ i)
+  ends i (here {b} {bs} q nin) w =
+      let r : (n (p b) ≡ b) × (p (n b) ≡ b) = (closing b b bs w, starting b b bs w) in
+      rw q at r
+  ends i (there {b} {bs} q on) w = to i b b on w
+
+  module _ (P : ℕ → Type 0) where
+    ahead : (close prev : ℕ) {l : List ℕ} → Each P l → P close → Way p n close prev l → P (n prev)
+    ahead close prev end h w = subst P (sym (w .0)) h
+    ahead close prev (g & gs) h w = subst P (sym (w .0 .0)) g
+
+    behind : (close prev : ℕ) {l : List ℕ} → Each P l → P prev → Way p n close prev l → P (p close)
+    behind close prev end h w = subst P (sym (w .1)) h
+    behind close prev (_&_ {a = b} g gs) h w = behind close b gs g (w .1)
+
+    along : (i close prev : ℕ) {l : List ℕ} → Once i l → Each P l → P close → P prev → Way p n close prev l → P (p i) × P (n i)
+    along i close prev (here {b} {bs} q nin) (g & gs) c h w =
+        let r : P (p b) × P (n b) = (subst P (sym (w .0 .1)) h, ahead close b gs c (w .1)) in
+        rw q at r
+    along i close prev (there {b} {bs} q on) (g & gs) c h w = along i close b on gs c g (w .1)
+
+    pub near : (i : ℕ) {l : List ℕ} → Once i l → Each P l → Links p n l → P (p i) × P (n i)
+    near i (here {b} {bs} q nin) (g & gs) w =
+        let r : P (p b) × P (n b) = (behind b b gs g w, ahead b b gs g w) in
+        rw q at r
+    near i (there {b} {bs} q on) (g & gs) w = along i b b on gs g g w
+
+  last-not : (i b : ℕ) (l : List ℕ) → (b ≡ i → ⊥) → NotIn i l → lastOf b l ≡ i → ⊥
+  last-not i b [] h nin e = h e
+  last-not i b (d ∷ ds) h nin e = last-not i d ds (nin .0) (nin .1) e
+
+  on-the-way : (i close prev : ℕ) {l : List ℕ} → Once i l → (prev ≡ i → ⊥) → Way p n close prev l → p i ≡ i → ⊥
+  on-the-way i close prev (here {b} {bs} q nin) h w e = h (sym (w .0 .1) ∙ ap p q ∙ e)
+  on-the-way i close prev (there {b} {bs} q on) h w e = on-the-way i close b on q (w .1) e
+
+  -- in a ring of two or more no corner is its own neighbour
+  pub not-own : (i : ℕ) {l : List ℕ} → Once i l → 2 ≤ length l → Links p n l → p i ≡ i → ⊥
+  not-own i (here {b} {bs = []} q nin) two w e = omega arith
+  not-own i (here {b} {bs = d ∷ ds} q nin) two w e = last-not i d ds (nin .0) (nin .1) (sym (last p n b b (d ∷ ds) w) ∙ ap p q ∙ e)
+  not-own i (there {b} {bs} q on) two w e = on-the-way i b b on q w e

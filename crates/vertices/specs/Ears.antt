@@ -4,8 +4,8 @@ use mathlib.Core.List.{List}
 use Rattle.algebra.specs.Rings.{Corner}
 use Rattle.rules.specs.Plane.{Pt}
 use Rattle.rules.specs.Ear as rules
-use Rattle.vertices.specs.declared.ear.Ear.{Ear}
-use Rattle.vertices.specs.declared.ear.Ear.the-variants.{No, Pointed}
+use Rattle.winners.specs.Keys.{fromEar}
+use Rattle.winners.specs.declared.Ear.{Ear}
 use Rattle.vertices.specs.declared.ear.Triangle.{Triangle}
 
 abbrev pub cornerOf : Triangle → Corner ℕ
@@ -16,14 +16,6 @@ pub record Within (n : ℕ) (t : Triangle) : Type 0 where
   pub before : t .before < n
   pub at : t .at < n
   pub after : t .after < n
-
-abbrev pub fromEar : rules.Ear → Ear
-fromEar rules.none = No
-fromEar (rules.pointed v) = Pointed v
-
-abbrev pub toEar : Ear → rules.Ear
-toEar No = rules.none
-toEar (Pointed v) = rules.pointed v
 
 unfoldable pub earOf : List Pt → Corner ℕ → Ear
 unfolding rules.ear

@@ -1,29 +1,31 @@
--- What the arrays say of the ring: the active numbers, ascending, each linked to its neighbours and with its ear.
-use Prim.Native.Nat.{ℕ, zero, suc, _-_, _<_}
+-- What the arrays say of the ring: the active numbers, ascending, each linked to its neighbours, with the length of its edge and its ear.
+use Prim.Native.Nat.{ℕ, zero, suc, _+_, _-_, _≤_, _<_}
 use mathlib.Core.Path.{_≡_}
+use mathlib.Core.Logic.{_⊎_}
 use mathlib.Core.Bool.{Bool, true, false, cond}
 use mathlib.Core.List.{List, [], _∷_}
-use lib.Ieee as Ieee
 use lib.Ieee.{Float, nan}
 use lib.ListN.{length, getD, set}
 use Rattle.algebra.specs.Rings.{Corner}
-use Rattle.rules.specs.Plane.{Pt}
+use Rattle.rules.specs.Cut.{nothing, without}
+use Rattle.rules.specs.Plane.{Pt, minus, point}
+use Rattle.rules.specs.Root.{reciprocal}
+use Rattle.winners.specs.Keys.{lowest, keyOf, entryIn, winnerIn, Power, Tree}
+use Rattle.winners.specs.declared.Ear.{Ear}
+use Rattle.winners.specs.declared.Entry.{Entry}
 use Rattle.vertices.specs.Ears.{earOf}
-use Rattle.vertices.specs.declared.ear.Ear.{Ear}
-use Rattle.vertices.specs.declared.ear.Ear.the-variants.{No, Pointed}
-use Rattle.vertices.specs.declared.Pick.{Pick}
-use Rattle.vertices.specs.declared.Pick.the-variants.{Nothing, At}
 
 -- the arrays, by name
 pub record Vertices : Type 0 where
   pub prev : List ℕ
   pub next : List ℕ
   pub active : List Bool
-  pub ears : List Bool
-  pub pointiness : List Float
+  pub reciprocals : List Float
+  pub val : List Float
+  pub win : List ℕ
 
-abbrev pub state : List ℕ → List ℕ → List Bool → List Bool → List Float → Vertices
-state p q a e v = record { prev = p; next = q; active = a; ears = e; pointiness = v }
+abbrev pub state : List ℕ → List ℕ → List Bool → List Float → List Float → List ℕ → Vertices
+state p q a r v w = record { prev = p; next = q; active = a; reciprocals = r; val = v; win = w }
 
 abbrev pub place : List ℕ → ℕ → ℕ
 place l i = getD l i 0
@@ -40,22 +42,20 @@ nextOf s = place (s .next)
 abbrev pub activeOf : Vertices → ℕ → Bool
 activeOf s = on (s .active)
 
-abbrev pub stored : Bool → Float → Ear
-stored true v = Pointed v
-stored false v = No
-
-abbrev pub earIn : List Bool → List Float → ℕ → Ear
-earIn e v i = stored (on e i) (getD v i nan)
-
-abbrev pub earAt : Vertices → ℕ → Ear
-earAt s = earIn (s .ears) (s .pointiness)
-
 -- the corner at i, by the links
 abbrev pub linkedCorner : (ℕ → ℕ) → (ℕ → ℕ) → ℕ → Corner ℕ
 linkedCorner p n i = record { before = p i; at = i; after = n i }
 
 abbrev pub cornerAt : Vertices → ℕ → Corner ℕ
 cornerAt s i = linkedCorner (prevOf s) (nextOf s) i
+
+-- the reciprocal of the length of the edge from i to j
+abbrev pub edgeOf : List Pt → ℕ → ℕ → Float
+edgeOf ps i j = reciprocal (minus (point ps j) (point ps i))
+
+-- corner i as it stands in the tree
+abbrev pub earEntry : ℕ → Ear → Entry
+earEntry i e = record { key = keyOf e; corner = i }
 
 -- those of the m numbers from k that are on
 unfoldable pub those : (ℕ → Bool) → ℕ → ℕ → List ℕ
@@ -82,55 +82,41 @@ pub record Sized (s : Vertices) : Type 0 where
   pub prev : length (s .prev) ≡ 512
   pub next : length (s .next) ≡ 512
   pub active : length (s .active) ≡ 512
-  pub ears : length (s .ears) ≡ 512
-  pub pointiness : length (s .pointiness) ≡ 512
+  pub reciprocals : length (s .reciprocals) ≡ 512
 
--- the state stands for its ring
-pub record Stands (ps : List Pt) (n : ℕ) (s : Vertices) : Type 0 where
+-- the links are those of the ring, and the lengths those of its edges
+pub record Ringed (ps : List Pt) (n : ℕ) (s : Vertices) : Type 0 where
   pub sized : Sized s
   pub links : Links (prevOf s) (nextOf s) (ringIn n s)
   pub within : (i : ℕ) → i < n → (prevOf s i < n) × (nextOf s i < n)
-  pub right-ears : (i : ℕ) → i < n → activeOf s i ≡ true → earAt s i ≡ earOf ps (cornerAt s i)
+  pub lengths : (i : ℕ) → i < n → activeOf s i ≡ true → getD (s .reciprocals) i nan ≡ edgeOf ps i (nextOf s i)
 
--- ---- the code's steps, on the state. The fields are given one by one, so that those that stay compute to what they were
+-- the tree holds the ears of the ring's corners, and nobody else
+pub record Eared (ps : List Pt) (n m : ℕ) (s : Vertices) : Type 0 where
+  pub power : Power m
+  pub room : n ≤ m
+  pub tree : Tree (s .val) (s .win) m
+  pub ears : (i : ℕ) → i < n → activeOf s i ≡ true → entryIn (s .val) (s .win) (m + i) ≡ earEntry i (earOf ps (cornerAt s i))
+  pub nobody : (i : ℕ) → i < m → (n ≤ i) ⊎ (activeOf s i ≡ false) → winnerIn (s .val) (s .win) (m + i) ≡ nothing
 
-abbrev pub unlinked : Vertices → ℕ → Vertices
-unlinked s i = record {
-  prev = set (s .prev) (nextOf s i) (prevOf s i);
-  next = set (s .next) (prevOf s i) (nextOf s i);
-  active = set (s .active) i false;
-  ears = s .ears;
-  pointiness = s .pointiness;
-}
+-- the state stands for its ring
+pub record Stands (ps : List Pt) (n m : ℕ) (s : Vertices) : Type 0 where
+  pub ringed : Ringed ps n s
+  pub eared : Eared ps n m s
 
-abbrev pub isEar : Ear → Bool
-isEar No = false
-isEar (Pointed v) = true
+-- what is known of a corner whose ear is worked out
+pub record AtCorner (ps : List Pt) (prev next : List ℕ) (reciprocals : List Float) (i : ℕ) : Type 0 where
+  pub small : length ps ≤ 512
+  pub low : i < length ps
+  pub before-low : place prev i < length ps
+  pub after-low : place next i < length ps
+  pub before : getD reciprocals (place prev i) nan ≡ edgeOf ps i (place prev i)
+  pub after : getD reciprocals i nan ≡ edgeOf ps i (place next i)
 
-abbrev pub setPointiness : List Float → ℕ → Ear → List Float
-setPointiness l i No = l
-setPointiness l i (Pointed v) = set l i v
-
-abbrev pub withEar : Vertices → ℕ → Ear → Vertices
-withEar s i e = record { prev = s .prev; next = s .next; active = s .active; ears = set (s .ears) i (isEar e); pointiness = setPointiness (s .pointiness) i e }
-
-abbrev pub updated : List Pt → Vertices → ℕ → Vertices
-updated ps s i = withEar s i (earOf ps (cornerAt s i))
-
--- corner i is cut, and the ears of its two neighbours are worked out again
-abbrev pub clipped : List Pt → Vertices → ℕ → Vertices
-clipped ps s i = updated ps (updated ps (unlinked s i) (prevOf s i)) (nextOf s i)
-
-abbrev pub betterOf : Pick → ℕ → Float → Pick
-betterOf Nothing i v = At i v
-betterOf (At j w) i v = cond (Ieee.le w v) (At i v) (At j w)
-
-abbrev pub pickStep : List Bool → List Bool → List Float → Pick → ℕ → Pick
-pickStep a e v b i = cond (on a i) (cond (on e i) (betterOf b i (getD v i nan)) b) b
-
-unfoldable pub pickFrom : List Bool → List Bool → List Float → Pick → ℕ → ℕ → Pick
-pickFrom a e v b k zero = b
-pickFrom a e v b k (suc m) = pickFrom a e v (pickStep a e v b k) (suc k) m
+-- corner i is cut
+pub record Clipped (ps : List Pt) (n m : ℕ) (s : Vertices) (i : ℕ) (s' : Vertices) : Type 0 where
+  pub stands : Stands ps n m s'
+  pub ring : ringIn n s' ≡ without i (ringIn n s)
 
 unfoldable pub lowestFrom : (ℕ → Bool) → ℕ → ℕ → ℕ
 lowestFrom o k zero = k
@@ -147,8 +133,14 @@ pub record Linked (n m : ℕ) (p q : List ℕ) (a : List Bool) : Type 0 where
   pub edges : (j : ℕ) → suc j < m → Follows (place p) (place q) j (suc j)
   pub close : Follows (place p) (place q) (n - 1) 0
 
--- the ears of the first m corners are worked out
-pub record Updated (ps : List Pt) (m : ℕ) (p q : List ℕ) (e : List Bool) (v : List Float) : Type 0 where
-  pub ears-size : length e ≡ 512
-  pub pointiness-size : length v ≡ 512
-  pub right-ears : (j : ℕ) → j < m → earIn e v j ≡ earOf ps (linkedCorner (place p) (place q) j)
+-- the lengths of the edges from the first k corners are kept
+pub record Measured (ps : List Pt) (k : ℕ) (q : List ℕ) (r : List Float) : Type 0 where
+  pub long : length r ≡ 512
+  pub lengths : (j : ℕ) → j < k → getD r j nan ≡ edgeOf ps j (place q j)
+
+-- the ears of the first k corners stand at their leaves, and nobody's at any other
+pub record Updated (ps : List Pt) (k m : ℕ) (p q : List ℕ) (v : List Float) (w : List ℕ) : Type 0 where
+  pub long-val : length v ≡ 1024
+  pub long-win : length w ≡ 1024
+  pub ears : (j : ℕ) → j < k → entryIn v w (m + j) ≡ earEntry j (earOf ps (linkedCorner (place p) (place q) j))
+  pub rest : (j : ℕ) → j < m → k ≤ j → getD v (m + j) nan ≡ lowest

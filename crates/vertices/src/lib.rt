@@ -1,25 +1,26 @@
-// The vertices of an outline that is cut: neighbours, which are active, and their ears. The crate's `VertexInfo`, as arrays.
+// The vertices of an outline that is cut: neighbours, which are active, the lengths of the edges, and the ears with the next one to cut. The
+// crate's `VertexInfo`, as arrays.
 pub mod ear;
 
-use ear::Ear;
 use ear::Triangle;
 use ear::update_vertex;
+use winners::Ear;
+use winners::build;
+use winners::put_leaf;
+use winners::set_ear;
 ghost use mathlib.Core.Path.{_≡_};
 ghost use mathlib.Core.Bool.{true, false};
 ghost use Prim.Native.Nat.{ℕ, _<_, _≤_};
 ghost use lib.ListN.{length, set};
 ghost use Rattle.algebra.specs.Lists.{countFrom};
 ghost use Rattle.rules.specs.Grid.{pointsOf};
+ghost use Rattle.rules.specs.Plane.{minus, point};
+ghost use Rattle.rules.specs.Root.{reciprocal};
 ghost use Rattle.rules.specs.Refusals.{offGrid};
+ghost use Rattle.blocking.specs.Outlined.{Outlined};
+ghost use Rattle.winners.specs.Keys.{Nobody, Power, Tree};
 ghost use Rattle.vertices.specs.Ears.{earOf};
-ghost use Rattle.vertices.specs.Vertices.{state, place, on, linkedCorner, isEar, setPointiness, clipped, betterOf, pickFrom, Sized, Stands, Linked, Updated, lowestFrom, ringIn};
-ghost use Rattle.vertices.specs.declared.Pick.the-variants.{Nothing};
-
-// The ear of greatest pointiness that was found so far.
-pub enum Pick {
-    Nothing,
-    At(usize, f32),
-}
+ghost use Rattle.vertices.specs.Vertices.{state, place, on, linkedCorner, AtCorner, Clipped, Sized, Stands, Linked, Measured, Updated, lowestFrom, ringIn};
 
 fn wide(x: u16) -> usize
     ensures { λ r. ⌜ r ≡ x ⌝ }
@@ -32,22 +33,6 @@ fn narrow(x: usize) -> u16
     ensures { λ r. ⌜ r ≡ x ⌝ }
 {
     x as u16
-}
-
-// Of equals the later.
-fn better(b: Pick, i: usize, v: f32) -> Pick
-    ensures { λ r. ⌜ r ≡ betterOf b i v ⌝ }
-{
-    match b {
-        Pick::Nothing => Pick::At(i, v),
-        Pick::At(j, w) => {
-            if w <= v {
-                Pick::At(i, v)
-            } else {
-                Pick::At(j, w)
-            }
-        }
-    }
 }
 
 // Takes corner i out of the ring.
@@ -67,92 +52,90 @@ fn unlink(prev: &mut [u16; 512], next: &mut [u16; 512], active: &mut [bool; 512]
     active[i] = false;
 }
 
-// Works out the ear at corner i.
-fn update(
-    coords: &[f32],
-    prev: &[u16; 512],
-    next: &[u16; 512],
-    i: usize,
-    ears: &mut [bool; 512],
-    pointiness: &mut [f32; 512],
-)
+// Keeps the reciprocal of the length of the edge from corner i to corner j.
+fn measure(coords: &[f32], i: usize, j: usize, reciprocals: &mut [f32; 512])
     requires { ⌜ offGrid (now coords) ≡ false ⌝ }
-    requires { ⌜ (i < 512) × (i < length (pointsOf (now coords))) ⌝ }
-    requires { ⌜ (place (now prev) i < length (pointsOf (now coords))) × (place (now next) i < length (pointsOf (now coords))) ⌝ }
+    requires { ⌜ (i < 512) × (i < length (pointsOf (now coords))) × (j < length (pointsOf (now coords))) ⌝ }
     ensures { λ r. ⌜
-        now (ears .exit)
-        ≡ set (now (ears .entry)) i (isEar (earOf (pointsOf (now (coords .entry))) (linkedCorner (place (now (prev .entry))) (place (now (next .entry))) i)))
-        ⌝ }
-    ensures { λ r. ⌜
-        now (pointiness .exit)
-        ≡ setPointiness (now (pointiness .entry)) i (earOf (pointsOf (now (coords .entry))) (linkedCorner (place (now (prev .entry))) (place (now (next .entry))) i))
+        now (reciprocals .exit)
+        ≡ set (now (reciprocals .entry)) i (reciprocal (minus (point (pointsOf (now (coords .entry))) j) (point (pointsOf (now (coords .entry))) i)))
         ⌝ }
 {
+    let p = grid::point_at(coords, i);
+    let q = grid::point_at(coords, j);
+    reciprocals[i] = root::reciprocal(q, p);
+}
+
+// The ear at corner i.
+fn ear_at(
+    coords: &[f32],
+    xs: &[f32; 512],
+    ys: &[f32; 512],
+    strips: &[u64; 260],
+    prev: &[u16; 512],
+    next: &[u16; 512],
+    reciprocals: &[f32; 512],
+    i: usize,
+) -> Ear
+    requires { ⌜ offGrid (now coords) ≡ false ⌝ }
+    requires { ⌜ Outlined (pointsOf (now coords)) (now xs) (now ys) (now strips) ⌝ }
+    requires { ⌜ AtCorner (pointsOf (now coords)) (now prev) (now next) (now reciprocals) i ⌝ }
+    ensures { λ r. ⌜ r ≡ earOf (pointsOf (now (coords .entry))) (linkedCorner (place (now (prev .entry))) (place (now (next .entry))) i) ⌝ }
+{
+    let before = wide(prev[i]);
+    let after = wide(next[i]);
     let t = Triangle {
-        before: wide(prev[i]),
+        before,
         at: i,
-        after: wide(next[i]),
+        after,
     };
-    match update_vertex(coords, t) {
-        Ear::No => {
-            ears[i] = false;
-        }
-        Ear::Pointed(v) => {
-            ears[i] = true;
-            pointiness[i] = v;
-        }
-    }
+    update_vertex(
+        coords,
+        xs,
+        ys,
+        strips,
+        t,
+        reciprocals[before],
+        reciprocals[i],
+    )
 }
 
 // Cuts corner i, and works out the ears of its neighbours again.
 pub fn clip(
     coords: &[f32],
+    xs: &[f32; 512],
+    ys: &[f32; 512],
+    strips: &[u64; 260],
     n: usize,
+    m: usize,
     i: usize,
     prev: &mut [u16; 512],
     next: &mut [u16; 512],
     active: &mut [bool; 512],
-    ears: &mut [bool; 512],
-    pointiness: &mut [f32; 512],
+    reciprocals: &mut [f32; 512],
+    val: &mut [f32; 1024],
+    win: &mut [u16; 1024],
 )
     requires { ⌜ offGrid (now coords) ≡ false ⌝ }
+    requires { ⌜ Outlined (pointsOf (now coords)) (now xs) (now ys) (now strips) ⌝ }
     requires { ⌜ (n ≤ 512) × (n ≡ length (pointsOf (now coords))) ⌝ }
     requires { ⌜ (i < n) × (on (now active) i ≡ true) ⌝ }
-    requires { ⌜ Stands (pointsOf (now coords)) n (state (now prev) (now next) (now active) (now ears) (now pointiness)) ⌝ }
+    requires { ⌜ 2 ≤ length (ringIn n (state (now prev) (now next) (now active) (now reciprocals) (now val) (now win))) ⌝ }
+    requires { ⌜ Stands (pointsOf (now coords)) n m (state (now prev) (now next) (now active) (now reciprocals) (now val) (now win)) ⌝ }
     ensures { λ r. ⌜
-        state (now (prev .exit)) (now (next .exit)) (now (active .exit)) (now (ears .exit)) (now (pointiness .exit))
-        ≡ clipped (pointsOf (now (coords .entry))) (state (now (prev .entry)) (now (next .entry)) (now (active .entry)) (now (ears .entry)) (now (pointiness .entry))) i
+        Clipped (pointsOf (now (coords .entry))) n m (state (now (prev .entry)) (now (next .entry)) (now (active .entry)) (now (reciprocals .entry)) (now (val .entry)) (now (win .entry))) i
+        (state (now (prev .exit)) (now (next .exit)) (now (active .exit)) (now (reciprocals .exit)) (now (val .exit)) (now (win .exit)))
         ⌝ }
 {
     let before = wide(prev[i]);
     let after = wide(next[i]);
     unlink(prev, next, active, i);
-    update(coords, prev, next, before, ears, pointiness);
-    update(coords, prev, next, after, ears, pointiness);
-}
-
-// The ear of greatest pointiness among the first n.
-pub fn pointiest(
-    active: &[bool; 512],
-    ears: &[bool; 512],
-    pointiness: &[f32; 512],
-    n: usize,
-) -> Pick
-    requires { ⌜ n ≤ 512 ⌝ }
-    ensures { λ r. ⌜ r ≡ pickFrom (now (active .entry)) (now (ears .entry)) (now (pointiness .entry)) Nothing 0 n ⌝ }
-{
-    let mut best = Pick::Nothing;
-    let mut i = 0;
-    while i < n {
-        if active[i] {
-            if ears[i] {
-                let v = pointiness[i];
-                best = better(best, i, v);
-            }
-        }
-        i += 1;
-    }
-    best
+    measure(coords, before, after, reciprocals);
+    let e = ear_at(coords, xs, ys, strips, prev, next, reciprocals, before);
+    let f = ear_at(coords, xs, ys, strips, prev, next, reciprocals, after);
+    set_ear(val, win, m, before, e);
+    set_ear(val, win, m, after, f);
+    set_ear(val, win, m, i, Ear::No);
 }
 
 // The lowest active number among the first n, or n.
@@ -190,26 +173,47 @@ fn link(n: usize, prev: &mut [u16; 512], next: &mut [u16; 512], active: &mut [bo
     }
 }
 
-// Works out the ears of the corners 0 to n - 1.
-fn update_all(
-    coords: &[f32],
-    n: usize,
-    prev: &[u16; 512],
-    next: &[u16; 512],
-    ears: &mut [bool; 512],
-    pointiness: &mut [f32; 512],
-)
+// Keeps the reciprocals of the lengths of the edges from the corners 0 to n - 1.
+fn measure_all(coords: &[f32], n: usize, next: &[u16; 512], reciprocals: &mut [f32; 512])
     requires { ⌜ offGrid (now coords) ≡ false ⌝ }
     requires { ⌜ (n ≤ 512) × (n ≡ length (pointsOf (now coords))) ⌝ }
-    requires { ⌜ (length (now ears) ≡ 512) × (length (now pointiness) ≡ 512) ⌝ }
-    requires { ⌜ ((j : ℕ) → j < n → (place (now prev) j < n) × (place (now next) j < n)) ⌝ }
-    ensures { λ r. ⌜
-        Updated (pointsOf (now (coords .entry))) n (now (prev .entry)) (now (next .entry)) (now (ears .exit)) (now (pointiness .exit))
-        ⌝ }
+    requires { ⌜ length (now reciprocals) ≡ 512 ⌝ }
+    requires { ⌜ ((j : ℕ) → j < n → place (now next) j < n) ⌝ }
+    ensures { λ r. ⌜ Measured (pointsOf (now (coords .entry))) n (now (next .entry)) (now (reciprocals .exit)) ⌝ }
 {
     let mut i = 0;
     while i < n {
-        update(coords, prev, next, i, ears, pointiness);
+        let j = wide(next[i]);
+        measure(coords, i, j, reciprocals);
+        i += 1;
+    }
+}
+
+// Works out the ears of the corners 0 to n - 1.
+fn update_all(
+    coords: &[f32],
+    xs: &[f32; 512],
+    ys: &[f32; 512],
+    strips: &[u64; 260],
+    n: usize,
+    m: usize,
+    prev: &[u16; 512],
+    next: &[u16; 512],
+    reciprocals: &[f32; 512],
+    val: &mut [f32; 1024],
+    win: &mut [u16; 1024],
+)
+    requires { ⌜ offGrid (now coords) ≡ false ⌝ }
+    requires { ⌜ Outlined (pointsOf (now coords)) (now xs) (now ys) (now strips) ⌝ }
+    requires { ⌜ (n ≤ m) × (m ≤ 512) ⌝ }
+    requires { ⌜ ((j : ℕ) → j < n → AtCorner (pointsOf (now coords)) (now prev) (now next) (now reciprocals) j) ⌝ }
+    requires { ⌜ Nobody (now val) × (length (now win) ≡ 1024) ⌝ }
+    ensures { λ r. ⌜ Updated (pointsOf (now (coords .entry))) n m (now (prev .entry)) (now (next .entry)) (now (val .exit)) (now (win .exit)) ⌝ }
+{
+    let mut i = 0;
+    while i < n {
+        let e = ear_at(coords, xs, ys, strips, prev, next, reciprocals, i);
+        put_leaf(val, win, m, i, e);
         i += 1;
     }
 }
@@ -217,23 +221,45 @@ fn update_all(
 // The whole ring, with its ears.
 pub fn start(
     coords: &[f32],
+    xs: &[f32; 512],
+    ys: &[f32; 512],
+    strips: &[u64; 260],
     n: usize,
+    m: usize,
     prev: &mut [u16; 512],
     next: &mut [u16; 512],
     active: &mut [bool; 512],
-    ears: &mut [bool; 512],
-    pointiness: &mut [f32; 512],
+    reciprocals: &mut [f32; 512],
+    val: &mut [f32; 1024],
+    win: &mut [u16; 1024],
 )
     requires { ⌜ offGrid (now coords) ≡ false ⌝ }
+    requires { ⌜ Outlined (pointsOf (now coords)) (now xs) (now ys) (now strips) ⌝ }
     requires { ⌜ (3 ≤ n) × (n ≤ 512) × (n ≡ length (pointsOf (now coords))) ⌝ }
-    requires { ⌜ Sized (state (now prev) (now next) (now active) (now ears) (now pointiness)) ⌝ }
+    requires { ⌜ Power m × (n ≤ m) ⌝ }
+    requires { ⌜ Sized (state (now prev) (now next) (now active) (now reciprocals) (now val) (now win)) ⌝ }
+    requires { ⌜ Nobody (now val) × (length (now win) ≡ 1024) ⌝ }
     ensures { λ r. ⌜
-        Stands (pointsOf (now (coords .entry))) n (state (now (prev .exit)) (now (next .exit)) (now (active .exit)) (now (ears .exit)) (now (pointiness .exit)))
+        Stands (pointsOf (now (coords .entry))) n m (state (now (prev .exit)) (now (next .exit)) (now (active .exit)) (now (reciprocals .exit)) (now (val .exit)) (now (win .exit)))
         ⌝ }
     ensures { λ r. ⌜
-        ringIn n (state (now (prev .exit)) (now (next .exit)) (now (active .exit)) (now (ears .exit)) (now (pointiness .exit))) ≡ countFrom 0 n
+        ringIn n (state (now (prev .exit)) (now (next .exit)) (now (active .exit)) (now (reciprocals .exit)) (now (val .exit)) (now (win .exit))) ≡ countFrom 0 n
         ⌝ }
 {
     link(n, prev, next, active);
-    update_all(coords, n, prev, next, ears, pointiness);
+    measure_all(coords, n, next, reciprocals);
+    update_all(
+        coords,
+        xs,
+        ys,
+        strips,
+        n,
+        m,
+        prev,
+        next,
+        reciprocals,
+        val,
+        win,
+    );
+    build(val, win, m);
 }

@@ -8,9 +8,6 @@ use Rattle.root.proofs.direction.Tie as tie
 scaled-by : {x y r s : Float} → x ≡ y → r ≡ s → mul binary32 x r ≡ mul binary32 y s
 scaled-by e g = cc
 
-reciprocal-requires : tie.Need-reciprocal-requires
-reciprocal-requires c κs = search needs
-
 side-from-requires : tie.Need-side-from-requires
 side-from-requires c κs = search needs
 
@@ -20,9 +17,9 @@ scaled-requires c κs = search needs
 returns : tie.Need-returns
 returns c =
     let d = c .before .side-from .ensures in
-    let r = c .before .before .reciprocal .ensures in
+    let r = c .before .before .pre .1 .1 in
     (c .scaled .ensures .0 ∙ scaled-by (d .0) r, c .scaled .ensures .1 ∙ scaled-by (d .1) r)
 
 pub direction-spec : {M : Type 1} → statement M
 direction-spec =
-    tie.close (tie.spec reciprocal-requires side-from-requires scaled-requires returns)
+    tie.close (tie.spec side-from-requires scaled-requires returns)

@@ -1,21 +1,56 @@
 -- `clip` meets its contract.
-use Prim.Native.Nat.{_<_}
+use Prim.Native.Nat.{_≤_, _<_}
 use native.Mathlib.Omega.{arith}
 use denote.Ref.{now}
 use Rattle.rules.specs.Grid.{pointsOf}
-use Rattle.vertices.specs.Vertices.{Vertices, state, place}
-use Rattle.vertices.proofs.Steps.{as-read, clip-is}
+use Rattle.winners.specs.Keys.{no}
+use Rattle.vertices.specs.Vertices.{Vertices, state, place, AtCorner}
+use Rattle.vertices.proofs.Corners.{proper}
+use Rattle.vertices.proofs.Steps.{at-before, at-after, clip-is}
 use borrow.Author.Needs.{needs}
 use Rattle.vertices.proofs.clip.Statement.{statement}
 use Rattle.vertices.proofs.clip.Tie as tie
+use Rattle.vertices.proofs.clip.Reads as reads
+use Rattle.vertices.proofs.clip.Lts as lts
+use Rattle.vertices.proofs.ear_at.Reads as ear-at-reads
+use Rattle.vertices.proofs.measure.Reads as measure-reads
+use Rattle.vertices.proofs.unlink.Reads as unlink-reads
+use Rattle.vertices.proofs.wide.Reads as wide-reads
+use Rattle.winners.proofs.set_ear.Reads as set-ear-reads
+
+-- ---- the places of the code, each from a later one
+
+abbrev after-read : tie.After-unlink → tie.After-wide2
+after-read c = c .before .before .before .before
+
+abbrev start : tie.After-wide2 → tie.Start
+start c = c .before .before .before .before .before
+
+abbrev unlinked : tie.After-measure → tie.After-unlink
+unlinked c = c .before .before
+
+abbrev measured : tie.After-ear-at → tie.After-measure
+measured c = c .before .before .before .before
+
+abbrev before-worked : tie.After-ear-at2 → tie.After-ear-at
+before-worked c = c .before .before .before .before
+
+abbrev both-worked : tie.After-set-ear → tie.After-ear-at2
+both-worked c = c .before .before .before
+
+abbrev before-set : tie.After-set-ear2 → tie.After-set-ear
+before-set c = c .before .before .before
+
+abbrev after-set : tie.After-set-ear3 → tie.After-set-ear2
+after-set c = c .before .before .before
 
 -- the arrays as they were lent
 abbrev lent : tie.Start → Vertices
-lent s = let a = s .args in state (now (a .prev)) (now (a .next)) (now (a .active)) (now (a .ears)) (now (a .pointiness))
+lent s = let a = s .args in state (now (a .prev)) (now (a .next)) (now (a .active)) (now (a .reciprocals)) (now (a .val)) (now (a .win))
 
 -- the neighbours are corners of the outline
 near : (s : tie.Start) → (place (now (s .args .prev)) (s .args .i) < s .args .n) × (place (now (s .args .next)) (s .args .i) < s .args .n)
-near s = let p = s .pre .1 in p .1 .1 .within (s .args .i) (p .1 .0 .0)
+near s = let p = s .pre .1 .1 in p .1 .1 .1 .ringed .within (s .args .i) (p .1 .0 .0)
 
 mul-wide : tie.Need-mul-wide
 mul-wide c = search needs
@@ -35,29 +70,88 @@ element-copy-out-wide-2 c = search needs
 wide-requires-2 : tie.Need-wide-requires-2
 wide-requires-2 c κs = search needs
 
+-- what the ears of both neighbours are worked out from, as the code reads it
+corners : (c : tie.After-measure)
+    → let a = start (after-read (unlinked c)) .args in let u = unlinked c .unlink in
+    AtCorner (pointsOf (now (a .coords))) (u .last .0) (u .last .1 .0) (c .measure .last .1 .1 .1 .0) (after-read (unlinked c) .before .before .wide .result)
+    × AtCorner (pointsOf (now (a .coords))) (u .last .0) (u .last .1 .0) (c .measure .last .1 .1 .1 .0) (after-read (unlinked c) .wide2 .result)
+corners c =
+    let read = after-read (unlinked c) in
+    let s = start read in
+    let p = s .pre .1 .1 in
+    let u = unlinked c .unlink .ensures in
+    let b = read .before .before .wide .ensures in
+    let f = read .wide2 .ensures in (
+      at-before _ (s .args .n) (lent s) (p .1 .1 .1 .ringed) (p .0 .0) (p .0 .1) (s .args .i) (p .1 .0 .0) (p .1 .0 .1) (p .1 .1 .0) _ _ b f _ _ _ _ (u .0) (u .1 .0) (u .1 .1) (c .measure .ensures),
+      at-after _ (s .args .n) (lent s) (p .1 .1 .1 .ringed) (p .0 .0) (p .0 .1) (s .args .i) (p .1 .0 .0) (p .1 .0 .1) (p .1 .1 .0) _ _ b f _ _ _ _ (u .0) (u .1 .0) (u .1 .1) (c .measure .ensures),
+    )
+
 unlink-requires : tie.Need-unlink-requires
-unlink-requires c κs = let s = c .before .before .before .before .before .before .before .before in let w = near s in let p = s .pre .1 in (omega (arith, p .0, p .1 .0), (omega (arith, w .0, p .0), omega (arith, w .1, p .0)))
+unlink-requires c κs =
+    let s = start (c .before .before .before) in
+    let w = near s in
+    let p = s .pre .1 .1 in
+    (omega (arith, p .0, p .1 .0), (omega (arith, w .0, p .0), omega (arith, w .1, p .0)))
 
-update-requires : tie.Need-update-requires
-update-requires c κs =
-    let s = c .before .before .before .before .before .before .before .before .before .before .before .before .before in
-    let p = s .pre in
-    let u = c .before .before .before .before .unlink .ensures in
-    (p .0, as-read (pointsOf (now (s .args .coords))) (s .args .n) (lent s) (p .1 .1 .1) (p .1 .0 .0) (s .args .i) (p .1 .1 .0 .0) (p .1 .1 .0 .1) (p .1 .0 .1) _ (rw (c .before .before .before .before .before .before .before .before .before .before .wide .ensures) (near s .0)) _ _ (u .0) (u .1 .0))
+measure-requires : tie.Need-measure-requires
+measure-requires c κs =
+    let read = after-read (c .before) in
+    let s = start read in
+    let w = near s in
+    let size = s .pre .1 .1 .0 in
+    let b = read .before .before .wide .ensures in
+    let f = read .wide2 .ensures in
+    (s .pre .0, (omega (arith, w .0, size, b), omega (arith, w .0, size, b), omega (arith, w .1, size, f)))
 
-update-requires-2 : tie.Need-update-requires-2
-update-requires-2 c κs =
-    let s = c .before .before .before .before .before .before .before .before .before .before .before .before .before .before .before .before .before .before in
-    let p = s .pre in
-    let u = c .before .before .before .before .before .before .before .before .before .unlink .ensures in
-    (p .0, as-read (pointsOf (now (s .args .coords))) (s .args .n) (lent s) (p .1 .1 .1) (p .1 .0 .0) (s .args .i) (p .1 .1 .0 .0) (p .1 .1 .0 .1) (p .1 .0 .1) _ (rw (c .before .before .before .before .before .before .before .before .before .before .before .before .before .wide2 .ensures) (near s .1)) _ _ (u .0) (u .1 .0))
+ear-at-requires : tie.Need-ear-at-requires
+ear-at-requires c κs =
+    let m = c .before .before .before in
+    let s = start (after-read (unlinked m)) in
+    (s .pre .0, (s .pre .1 .0, corners m .0))
+
+ear-at-requires-2 : tie.Need-ear-at-requires-2
+ear-at-requires-2 c κs =
+    let m = measured (c .before .before .before) in
+    let s = start (after-read (unlinked m)) in
+    (s .pre .0, (s .pre .1 .0, corners m .1))
+
+set-ear-requires : tie.Need-set-ear-requires
+set-ear-requires c κs =
+    let first = before-worked (c .before .before) in
+    let read = after-read (unlinked (measured first)) in
+    let s = start read in
+    let e = s .pre .1 .1 .1 .1 .1 .eared in
+    (e .tree, (omega (arith, near s .0, e .room, read .before .before .wide .ensures), rw (first .ear-at .ensures) (proper _ (s .pre .0) _)))
+
+set-ear-requires-2 : tie.Need-set-ear-requires-2
+set-ear-requires-2 c κs =
+    let set = c .before .before in
+    let second = both-worked set in
+    let read = after-read (unlinked (measured (before-worked second))) in
+    let s = start read in
+    let e = s .pre .1 .1 .1 .1 .1 .eared in
+    (set .set-ear .ensures .0, (omega (arith, near s .1, e .room, read .wide2 .ensures), rw (second .ear-at2 .ensures) (proper _ (s .pre .0) _)))
+
+set-ear-requires-3 : tie.Need-set-ear-requires-3
+set-ear-requires-3 c κs =
+    let set = c .before .before in
+    let s = start (after-read (unlinked (measured (before-worked (both-worked (before-set set)))))) in
+    let p = s .pre .1 .1 .1 in
+    (set .set-ear2 .ensures .0, (omega (arith, p .0 .0, p .1 .1 .eared .room), no))
 
 returns : tie.Need-returns
 returns c =
-    let s = c .before .before .before .before .before .before .before .before .before .before .before .before .before .before .before .before .before .before .before in
-    let u = c .before .before .before .before .before .before .before .before .before .before .unlink .ensures in
-    let e = c .before .before .before .before .before .update .ensures in
-    clip-is (pointsOf (now (s .args .coords))) (lent s) (s .args .i) _ _ (c .before .before .before .before .before .before .before .before .before .before .before .before .before .before .before .before .wide .ensures) (c .before .before .before .before .before .before .before .before .before .before .before .before .before .before .wide2 .ensures) _ _ _ _ _ _ _ (u .0) (u .1 .0) (u .1 .1) (e .0) (e .1) (c .update2 .ensures .0) (c .update2 .ensures .1)
+    let third = after-set c in
+    let second = before-set third in
+    let worked = both-worked second in
+    let m = measured (before-worked worked) in
+    let read = after-read (unlinked m) in
+    let s = start read in
+    let p = s .pre .1 .1 in
+    let u = unlinked m .unlink .ensures in
+    clip-is _ (s .args .n) (lent s) (p .1 .1 .1 .ringed) (p .0 .0) (p .0 .1) (s .args .i) (p .1 .0 .0) (p .1 .0 .1) (p .1 .1 .0) _ _ (read .before .before .wide .ensures) (read .wide2 .ensures)
+    _ _ _ _ (u .0) (u .1 .0) (u .1 .1) (m .measure .ensures) (s .args .m) (p .1 .1 .1 .eared) _ _ (before-worked worked .ear-at .ensures) (worked .ear-at2 .ensures)
+    _ _ _ _ _ _ (second .set-ear .ensures .1) (third .set-ear2 .ensures .1) (c .set-ear3 .ensures .1) (c .set-ear3 .ensures .0)
 
 pub clip-spec : {M : Type 1} → statement M
 clip-spec =
@@ -70,6 +164,10 @@ clip-spec =
     element-copy-out-wide-2
     wide-requires-2
     unlink-requires
-    update-requires
-    update-requires-2
+    measure-requires
+    ear-at-requires
+    ear-at-requires-2
+    set-ear-requires
+    set-ear-requires-2
+    set-ear-requires-3
     returns)

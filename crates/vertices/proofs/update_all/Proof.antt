@@ -1,42 +1,66 @@
--- `update_all` meets its contract. The invariant: the ears below i are worked out.
-use Prim.Native.Nat.{_-_, _≤_}
+-- `update_all` meets its contract. The invariant: the ears of the corners below i stand at their leaves.
+use Prim.Native.Nat.{_-_, _≤_, _<_}
 use mathlib.Core.Path.{_≡_}
 use native.Mathlib.Omega.{arith}
 use Rattle.rules.specs.Grid.{pointsOf}
 use Rattle.vertices.specs.Vertices.{Updated}
-use Rattle.vertices.proofs.Starts.{updated-more}
+use Rattle.vertices.proofs.Starts.{none-updated, updated-more}
 use Rattle.vertices.proofs.update_all.Statement.{statement}
 use Rattle.vertices.proofs.update_all.Tie as tie
+use Rattle.vertices.proofs.update_all.Reads as reads
+use Rattle.vertices.proofs.update_all.Lts as lts
+use Rattle.vertices.proofs.ear_at.Reads as ear-at-reads
+use Rattle.winners.proofs.put_leaf.Reads as put-leaf-reads
 
 abbrev Inv-loop : tie.InvT-loop
-Inv-loop coords n prev next ears₀ pointiness₀ i₀ ears pointiness i = (i ≤ n) × Updated (pointsOf coords) i prev next ears pointiness
+Inv-loop coords xs ys strips n m prev next reciprocals val₀ win₀ i₀ val win i = (i ≤ n) × Updated (pointsOf coords) i m prev next val win
 
 abbrev μ-loop : tie.MeasureT-loop
-μ-loop coords n prev next ears₀ pointiness₀ i₀ ears pointiness i = n - i
+μ-loop coords xs ys strips n m prev next reciprocals val₀ win₀ i₀ val win i = n - i
 
 loop-holds : tie.Need-loop-holds Inv-loop μ-loop
-loop-holds c = let p = c .before .pre .1 .1 .0 in (omega arith, record { ears-size = p .0; pointiness-size = p .1; right-ears = λ j l. absurd (omega arith) })
+loop-holds c = let p = c .before .pre .1 .1 in (omega arith, none-updated _ _ _ _ _ _ (p .0 .1) (p .1 .1 .0) (p .1 .1 .1))
 
-update-requires : tie.Need-update-requires Inv-loop μ-loop
-update-requires c κs =
-    let p = c .before .before .before .before .before .pre in
-    let t = c .before .before .loop-test .taken in
-    let w = p .1 .1 .1 (c .before .before .before .loop .i) t in
-    (p .0, ((omega (arith, t, p .1 .0), omega (arith, t, p .1 .0)), (omega (arith, w .0, p .1 .0), omega (arith, w .1, p .1 .0))))
+ear-at-requires : tie.Need-ear-at-requires Inv-loop μ-loop
+ear-at-requires c κs = let s = c .before .before .before in (s .pre .0, (s .pre .1 .0, s .pre .1 .1 .1 .0 (c .before .loop .i) (c .loop-test .taken)))
+
+put-leaf-requires : tie.Need-put-leaf-requires Inv-loop μ-loop
+put-leaf-requires c κs =
+    let test = c .before .before .before in
+    let size = test .before .before .before .pre .1 .1 .0 in
+    (omega (arith, size .0, test .loop-test .taken), size .1)
 
 add-i : tie.Need-add-i Inv-loop μ-loop
-add-i c = omega (arith, c .before .before .before .loop-test .taken)
+add-i c = let test = c .before .before .before .before in omega (arith, test .before .before .before .pre .1 .1 .0, test .loop-test .taken)
 
 loop-less : tie.Need-loop-less Inv-loop μ-loop
-loop-less c = omega (arith, c .before .before .before .loop-test .taken)
+loop-less c = omega (arith, c .before .before .before .before .loop-test .taken)
 
 loop-again : tie.Need-loop-again Inv-loop μ-loop
-loop-again c = let l = c .before .before .before .before .loop in (omega (arith, c .before .before .before .loop-test .taken), updated-more _ _ _ _ _ _ (l .inv .1) (omega (arith, c .before .before .before .loop-test .taken, c .before .before .before .before .before .before .pre .1 .0)) _ _ (c .update .ensures .0) (c .update .ensures .1))
+loop-again c =
+    let test = c .before .before .before .before in
+    let l = test .before .loop in
+    let t = test .loop-test .taken in
+    let size = test .before .before .before .pre .1 .1 .0 in
+    let low : l .i < test .before .before .before .args .m = omega (arith, size .0, t) in
+    (omega (arith, t), updated-more _ _ _ _ _ _ _ _ _ _ low (size .1) (c .before .before .before .ear-at .ensures) (c .put-leaf .ensures .0) (c .put-leaf .ensures .1) (l .inv .1))
 
 returns : tie.Need-returns Inv-loop μ-loop
-returns c = let e : c .before .loop .i ≡ c .before .before .before .args .n = omega (arith, c .before .loop .inv .0, c .loop-test .left) in rw e at (c .before .loop .inv .1)
+returns c =
+    let l = c .before .loop in
+    let e : l .i ≡ c .before .before .before .args .n = omega (arith, l .inv .0, c .loop-test .left) in
+    rw e at (l .inv .1)
 
 pub update-all-spec : {M : Type 1} → statement M
 update-all-spec =
     tie.close
-    (tie.spec Inv-loop μ-loop loop-holds update-requires add-i loop-less loop-again returns)
+    (tie.spec
+    Inv-loop
+    μ-loop
+    loop-holds
+    ear-at-requires
+    put-leaf-requires
+    add-i
+    loop-less
+    loop-again
+    returns)

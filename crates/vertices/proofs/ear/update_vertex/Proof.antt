@@ -3,11 +3,14 @@ use mathlib.Core.Path.{_≡_, _∙_}
 use borrow.Author.Tests.{not-true, not-false}
 use Rattle.rules.specs.Grid.{pointsOf}
 use Rattle.rules.specs.Ear as rules
-use Rattle.rules.specs.Plane.{turnsLeft}
+use lib.Ieee.{Float}
+use Rattle.rules.specs.Plane.{Pt, minus, turnsLeft}
+use Rattle.rules.specs.Root.{reciprocal}
+use Rattle.grid.specs.Points.{ptOf}
 use Rattle.rules.proofs.Coordinates.{point-fits}
 use denote.Ref.{now}
 use Rattle.vertices.specs.Ears.{cornerOf}
-use Rattle.vertices.proofs.Blocking.{left-is, blocked-is, no-left, is-blocked, is-pointed}
+use Rattle.vertices.proofs.IsEar.{left-is, left-so, blocked-is, no-left, is-blocked, is-pointed}
 use borrow.Author.Needs.{needs}
 use Rattle.vertices.proofs.ear.update_vertex.Statement.{statement}
 use Rattle.vertices.proofs.ear.update_vertex.Tie as tie
@@ -26,16 +29,20 @@ points c = c .before .before
 abbrev left-turn : tie.After-blocked → tie.After-is-ccw
 left-turn c = c .before .before
 
+-- a side's reciprocal, by the points that were read
+side : {q p a b : Pt} → q ≡ a → p ≡ b → {r : Float} → r ≡ reciprocal (minus a b) → r ≡ reciprocal (minus q p)
+side e f g = rw (e, f) g
+
 -- ---- the points
 
 point-at-requires : tie.Need-point-at-requires
-point-at-requires c κs = (c .before .pre .0, point-fits _ _ (c .before .pre .1 .before))
+point-at-requires c κs = (c .before .pre .0, point-fits _ _ (c .before .pre .1 .1 .0 .before))
 
 point-at-requires-2 : tie.Need-point-at-requires-2
-point-at-requires-2 c κs = (c .before .before .pre .0, point-fits _ _ (c .before .before .pre .1 .at))
+point-at-requires-2 c κs = (c .before .before .pre .0, point-fits _ _ (c .before .before .pre .1 .1 .0 .at))
 
 point-at-requires-3 : tie.Need-point-at-requires-3
-point-at-requires-3 c κs = (c .before .before .before .pre .0, point-fits _ _ (c .before .before .before .pre .1 .after))
+point-at-requires-3 c κs = (c .before .before .before .pre .0, point-fits _ _ (c .before .before .before .pre .1 .1 .0 .after))
 
 corner-direction-requires : tie.Need-corner-direction-requires
 corner-direction-requires c κs = (c .before .before .point-at .ensures .0, (c .before .point-at2 .ensures .0, c .point-at3 .ensures .0))
@@ -57,15 +64,17 @@ asked c =
     let p = points (left-turn c) in
     let a = start p .args in
     blocked-is (pointsOf (now (a .coords))) (cornerOf (a .t)) _ _ _ (first p .point-at .ensures .1) (p .before .point-at2 .ensures .1) (p .point-at3 .ensures .1) _
-    (c .blocked .ensures)
+    (c .blocked .ensures (pointsOf (now (a .coords))) (start p .pre .1 .0))
 
 returns : tie.Need-returns
 returns c = no-left _ _ (turned (c .before) ∙ not-true _ (c .if1 .taken))
 
 blocked-requires : tie.Need-blocked-requires
 blocked-requires c κs =
-    let p = points (c .before) in
-    (start p .pre .0, (first p .point-at .ensures .0, (p .before .point-at2 .ensures .0, p .point-at3 .ensures .0)))
+    let turn = c .before in
+    let p = points turn in
+    let l = left-so (ptOf (first p .point-at .result)) (ptOf (p .before .point-at2 .result)) (ptOf (p .point-at3 .result)) _ (turn .before .corner-direction .ensures) _ (turn .is-ccw .ensures) (not-false _ (c .if1 .left)) in
+    (first p .point-at .ensures .0, (p .before .point-at2 .ensures .0, (p .point-at3 .ensures .0, l)))
 
 returns-2 : tie.Need-returns-2
 returns-2 c = is-blocked _ _ (turned (left-turn (c .before)) ∙ not-false _ (c .before .before .if1 .left)) (asked (c .before) ∙ c .if2 .taken)
@@ -73,7 +82,11 @@ returns-2 c = is-blocked _ _ (turned (left-turn (c .before)) ∙ not-false _ (c 
 pointiness-requires : tie.Need-pointiness-requires
 pointiness-requires c κs =
     let p = points (left-turn (c .before)) in
-    (first p .point-at .ensures .0, (p .before .point-at2 .ensures .0, p .point-at3 .ensures .0))
+    let sides = start p .pre .1 .1 .1 in
+    let own = p .before .point-at2 .ensures .1 in (
+      first p .point-at .ensures .0,
+      (p .before .point-at2 .ensures .0, (p .point-at3 .ensures .0, (side (first p .point-at .ensures .1) own (sides .0), side (p .point-at3 .ensures .1) own (sides .1)))),
+    )
 
 returns-3 : tie.Need-returns-3
 returns-3 c =

@@ -1,47 +1,24 @@
--- Which points block an ear, and the loop that asks all of them.
-use Prim.Native.Nat.{ℕ, _+_, _≤_, _<_}
+-- What the code's tests say of an ear.
+use Prim.Native.Nat.{ℕ}
 use mathlib.Core.Path.{_≡_, refl, sym, _∙_, ap}
-use mathlib.Core.Bool.{Bool, true, false, cond, not, _&&_, _||_}
+use mathlib.Core.Bool.{Bool, true, false, cond, not, _&&_}
 use mathlib.Core.List.{List}
-use lib.IntN.{pos}
-use lib.ListN.{length, drop, drop-of-length-le}
 use lib.Ieee.{Float}
 use Rattle.algebra.specs.Lists.{any}
 use Rattle.algebra.specs.Rings.{Corner}
-use Rattle.algebra.proofs.Lists.{any-next}
-use Rattle.rules.specs.Plane.{Pt, same, minus, turn, inTriangle, point, turnsLeft}
+use Rattle.rules.specs.Plane.{Pt, minus, turn, left, point, turnsLeft}
 use Rattle.rules.specs.Root.{pointiness}
 use Rattle.rules.specs.Ear as rules
 use Rattle.grid.specs.declared.point_in_triangle.Orientation.{Orientation}
 use Rattle.grid.specs.Points.{orientation, isCcw}
 use Rattle.grid.proofs.Turn.{ccw-left}
-use Rattle.vertices.specs.Ears.{fromEar, earOf}
-use Rattle.vertices.specs.declared.ear.Ear.the-variants.{No, Pointed}
+use Rattle.winners.specs.Keys.{fromEar}
+use Rattle.winners.specs.declared.Ear.the-variants.{No, Pointed}
+use Rattle.vertices.specs.Ears.{earOf}
 
--- ---- one point, by the code's tests
-
-pub by-tests :
-    (a b c q : Pt) {i s t u : Bool} → inTriangle a b c q ≡ i → same q a ≡ s → same q b ≡ t → same q c ≡ u → (i && not (s || (t || u))) ≡ rules.blocks a b c q
-unfolding rules.blocks
-by-tests a b c q e f g h = rw (← e, ← f, ← g, ← h)
-
--- ---- all points: what is left to ask once those below i are passed
-
-module _ (f : Pt → Bool) (ps : List Pt) (i : ℕ) (w : any f ps ≡ any f (drop i ps)) where
-  pub none-left : length ps ≤ i → false ≡ any f ps
-  none-left h = sym (w ∙ rw (drop-of-length-le ps h))
-
-  module _ (h : i < length ps) (q : Pt) (e : q ≡ point ps i) (s : Bool) (is : s ≡ f q) where
-    next : any f ps ≡ (s || any f (drop (i + 1) ps))
-    next = w ∙ any-next (record { x = pos 0; y = pos 0 }) f ps i h ∙ rw (← e, ← is)
-
-    pub passes : s ≡ true → true ≡ any f ps
-    passes e = sym (next ∙ ap (λ (x : Bool). x || any f (drop (i + 1) ps)) e)
-
-    pub passed : s ≡ false → any f ps ≡ any f (drop (i + 1) ps)
-    passed e = next ∙ ap (λ (x : Bool). x || any f (drop (i + 1) ps)) e
-
--- ---- the ear
+-- the three points turn left
+pub left-so : (a b c : Pt) (d : Orientation) → d ≡ orientation (turn a b c) → (s : Bool) → s ≡ isCcw d → s ≡ true → left a b c ≡ true
+left-so a b c d i s j e = sym (ccw-left (turn a b c)) ∙ ap isCcw (sym i) ∙ sym j ∙ e
 
 module _ (ps : List Pt) (t : Corner ℕ) where
   pub blocked-is :
