@@ -6,7 +6,8 @@ use mathlib.Core.Bool.{true}
 use mathlib.Core.List.{List, [], _∷_, _++_, map}
 use lib.ListN.{length, take, length-set, length-map}
 use lib.Ieee.{Float}
-use Rattle.algebra.specs.Lists.{countFrom}
+use Rattle.algebra.specs.Lists.{Each, countFrom}
+use Rattle.algebra.proofs.Lists.{each-map}
 use Rattle.algebra.specs.Rings.{Corner, corners, ringOf}
 use Rattle.algebra.proofs.Counting.{count-length}
 use Rattle.rules.specs.Limits.{mostPoints, mostIndices}
@@ -14,57 +15,56 @@ use Rattle.rules.specs.Plane.{Pt}
 use Rattle.rules.specs.Cut.{Choice, nothing, best, choose, without, Cut, stuck, done, write, lowest, cutRing, cut}
 use Rattle.rules.specs.Layout.{flatten, over}
 use Rattle.rules.specs.Entries.{trianglesOf, trianglesFor}
+use Rattle.rules.proofs.Cuts.{chosen-in}
 use Rattle.rules.proofs.Outline.{cut-count}
-use Rattle.vertices.specs.Vertices.{Vertices, prevOf, nextOf, activeOf, cornerAt, linkedCorner, those, ringIn, Stands, clipped, pickFrom, lowestFrom}
+use Rattle.winners.specs.Keys.{Proper, rootOf}
+use Rattle.winners.specs.declared.Pick.{Pick}
+use Rattle.winners.specs.declared.Pick.the-variants.{Nothing, At}
+use Rattle.vertices.specs.Ears.{earOf}
+use Rattle.vertices.specs.Vertices.{Vertices, prevOf, nextOf, activeOf, cornerAt, linkedCorner, ringIn, Stands, Clipped, lowestFrom}
 use Rattle.ear_clipping.specs.Store.{put3}
 use Rattle.ear_clipping.specs.Promise.{Written}
-use Rattle.vertices.specs.declared.Pick.{Pick}
-use Rattle.vertices.specs.declared.Pick.the-variants.{Nothing, At}
 use Rattle.vertices.proofs.Links.{corners-map, without-length}
-use Rattle.vertices.proofs.Picks.{chosen, picks}
-use Rattle.vertices.proofs.Actives.{PickOk, pick-ok, once, Lowest, none, some, lowest as lowest-on}
-use Rattle.vertices.proofs.Steps.{cut-rep, cut-ring}
+use Rattle.vertices.proofs.Picks.{each-of-ring, agree-nothing, agree-at, chosen}
+use Rattle.vertices.proofs.Actives.{once, Lowest, none, some, lowest as lowest-on}
 use Rattle.ear_clipping.proofs.Writes.{take-put}
 
 -- ---- one turn
 
 -- what a choice makes of the cut of the rest
-abbrev gone-on : ℕ → List Pt → List ℕ → Choice → Cut
+abbrev gone-on : ℕ → List Pt → List ℕ → Choice (Corner ℕ) → Cut
 gone-on k ps ring nothing = stuck
 gone-on k ps ring (best c f) = write c (cutRing k ps (without (c .at) ring))
 
-module _ (ps : List Pt) (n : ℕ) (s : Vertices) (h : Stands ps n s) where
-  chose : choose ps nothing (corners (ringIn n s)) ≡ chosen s (pickFrom (s .active) (s .ears) (s .pointiness) Nothing 0 n)
-  chose = ap (choose ps nothing) (corners-map (prevOf s) (nextOf s) (ringIn n s) (h .links)) ∙ picks ps s n (h .right-ears) Nothing 0 n (omega arith)
-
-  cut-more : (k : ℕ) (b : Choice) → choose ps nothing (corners (ringIn n s)) ≡ b → cutRing (suc k) ps (ringIn n s) ≡ gone-on k ps (ringIn n s) b
+module _ (ps : List Pt) (proper : (c : Corner ℕ) → Proper (earOf ps c)) (n m : ℕ) (s : Vertices) (h : Stands ps n m s) where
+  cut-more : (k : ℕ) (b : Choice (Corner ℕ)) → choose ps nothing (corners (ringIn n s)) ≡ b → cutRing (suc k) ps (ringIn n s) ≡ gone-on k ps (ringIn n s) b
   unfolding cutRing
   cut-more k nothing e = rw (e, cutRing)
   cut-more k (best c f) e = rw (e, cutRing)
 
-  turn : (k : ℕ) (b : Pick) → pickFrom (s .active) (s .ears) (s .pointiness) Nothing 0 n ≡ b → cutRing (suc k) ps (ringIn n s) ≡ gone-on k ps (ringIn n s) (chosen s b)
-  turn k b e = cut-more k (chosen s b) (chose ∙ ap (chosen s) e)
+  pub cut-none : (left : ℕ) → 3 < left → {b : Pick} → b ≡ rootOf (s .val) (s .win) → b ≡ Nothing → cutRing (left - 3) ps (ringIn n s) ≡ stuck
+  cut-none left l e is =
+      let q : left - 3 ≡ suc (left - 4) = omega arith in
+      rw q (cut-more (left - 4) nothing (agree-nothing (chosen ps proper n m s h Nothing (sym is ∙ e))))
 
-  pub cut-none : (left : ℕ) → 3 < left → pickFrom (s .active) (s .ears) (s .pointiness) Nothing 0 n ≡ Nothing → cutRing (left - 3) ps (ringIn n s) ≡ stuck
-  cut-none left l e = let q : left - 3 ≡ suc (left - 4) = omega arith in rw q (turn (left - 4) Nothing e)
+  module _ (i : ℕ) (e : At i ≡ rootOf (s .val) (s .win)) where
+    taken : (f : Float) × (choose ps nothing (corners (ringIn n s)) ≡ best (cornerAt s i) f)
+    taken = agree-at (chosen ps proper n m s h (At i) e)
 
-  pub picked : (i : ℕ) (v : Float) → pickFrom (s .active) (s .ears) (s .pointiness) Nothing 0 n ≡ At i v → (i < n) × (activeOf s i ≡ true)
-  picked i v e =
-      let r : PickOk (activeOf s) n (pickFrom (s .active) (s .ears) (s .pointiness) Nothing 0 n) = pick-ok s n Nothing 0 n (omega arith) tt in
-      rw e at r
+    pub picked : (i < n) × (activeOf s i ≡ true)
+    picked =
+        let in-ring : Each (λ j. (j < n) × (activeOf s j ≡ true)) (ringIn n s) = each-of-ring (λ j. (j < n) × (activeOf s j ≡ true)) (activeOf s) n (λ j l o. (l, o)) 0 n (omega arith) in
+        let at : Each (λ c. (c .at < n) × (activeOf s (c .at) ≡ true)) (corners (ringIn n s)) = rw (corners-map (prevOf s) (nextOf s) (ringIn n s) (h .ringed .links)) (each-map (cornerAt s) in-ring) in
+        chosen-in ps (λ c. (c .at < n) × (activeOf s (c .at) ≡ true)) at (taken .1) .0
 
-  pub cut-some :
-      (left i : ℕ) (v : Float) → 3 < left → n ≤ mostPoints → pickFrom (s .active) (s .ears) (s .pointiness) Nothing 0 n ≡ At i v
-      → cutRing (left - 3) ps (ringIn n s) ≡ write (cornerAt s i) (cutRing (left - 1 - 3) ps (ringIn n (clipped ps s i)))
-  cut-some left i v l small e =
-      let q : left - 3 ≡ suc (left - 1 - 3) = omega arith in
-      let r = picked i v e in
-      rw (q, cut-ring ps n s h small i (r .0) (r .1)) (turn (left - 1 - 3) (At i v) e)
+    module _ (s' : Vertices) (clipped : Clipped ps n m s i s') where
+      pub cut-some : (left : ℕ) → 3 < left → cutRing (left - 3) ps (ringIn n s) ≡ write (cornerAt s i) (cutRing (left - 1 - 3) ps (ringIn n s'))
+      cut-some left l =
+          let q : left - 3 ≡ suc (left - 1 - 3) = omega arith in
+          rw (q, clipped .ring) (cut-more (left - 1 - 3) (best (cornerAt s i) (taken .0)) (taken .1))
 
-  pub ring-less : (i : ℕ) (v : Float) → n ≤ mostPoints → pickFrom (s .active) (s .ears) (s .pointiness) Nothing 0 n ≡ At i v → length (ringIn n s) ≡ suc (length (ringIn n (clipped ps s i)))
-  ring-less i v small e =
-      let r = picked i v e in
-      rw (cut-ring ps n s h small i (r .0) (r .1)) (without-length i (once (activeOf s) i 0 n (omega arith) (omega (arith, r .0)) (r .1)))
+      pub ring-less : length (ringIn n s) ≡ suc (length (ringIn n s'))
+      ring-less = rw (clipped .ring) (without-length i (once (activeOf s) i 0 n (omega arith) (omega (arith, picked .0)) (picked .1)))
 
   -- the last three: the lowest active number
   pub last-some :
@@ -77,7 +77,7 @@ module _ (ps : List Pt) (n : ℕ) (s : Vertices) (h : Stands ps n s) where
           Lowest (activeOf s) 0 n
           → (lowestFrom (activeOf s) 0 n < n) × (activeOf s (lowestFrom (activeOf s) 0 n) ≡ true) × (cutRing 0 ps (ringIn n s) ≡ done (cornerAt s (lowestFrom (activeOf s) 0 n) ∷ []))
       go (none a b) = absurd (omega (arith, ap length b))
-      go (some l a b d) = (omega arith, d, ap lowest (corners-map (prevOf s) (nextOf s) (ringIn n s) (h .links) ∙ ap (map (linkedCorner (prevOf s) (nextOf s))) a))
+      go (some l a b d) = (omega arith, d, ap lowest (corners-map (prevOf s) (nextOf s) (ringIn n s) (h .ringed .links) ∙ ap (map (linkedCorner (prevOf s) (nextOf s))) a))
 
 -- ---- what has been written
 
@@ -107,20 +107,20 @@ flat-more [] c = refl
 flat-more (d ∷ w) c = simp (flat-more w c)
 
 -- the loop's invariant: the cut is what is written, and the cut of the ring that is left
-pub record Inv (ps : List Pt) (n : ℕ) (triangles : List ℕ) (s : Vertices) (left k : ℕ) : Type 0 where
+pub record Inv (ps : List Pt) (n m : ℕ) (triangles : List ℕ) (s : Vertices) (left k : ℕ) : Type 0 where
   pub more : 3 ≤ left
   pub most : left ≤ n
   pub count : k + 3 * left ≡ 3 * n
   pub size : length triangles ≡ mostIndices
-  pub stands : Stands ps n s
+  pub stands : Stands ps n m s
   pub ring-size : length (ringIn n s) ≡ left
   pub written : List (Corner ℕ)
   pub store : take k triangles ≡ flatten (map ringOf written)
   pub work : cut ps ≡ writeAll written (cutRing (left - 3) ps (ringIn n s))
 
-pub inv-first : (ps : List Pt) (n : ℕ) (triangles : List ℕ) (s : Vertices) → 3 ≤ n → n ≡ length ps → length triangles ≡ mostIndices → Stands ps n s → ringIn n s ≡ countFrom 0 n → Inv ps n triangles s n 0
+pub inv-first : (ps : List Pt) (n m : ℕ) (triangles : List ℕ) (s : Vertices) → 3 ≤ n → n ≡ length ps → length triangles ≡ mostIndices → Stands ps n m s → ringIn n s ≡ countFrom 0 n → Inv ps n m triangles s n 0
 unfolding cut writeAll flatten
-inv-first ps n triangles s big is z h e = record {
+inv-first ps n m triangles s big is z h e = record {
   more = big;
   most = omega arith;
   count = omega arith;
@@ -132,7 +132,7 @@ inv-first ps n triangles s big is z h e = record {
   work = rw (← is) (ap (cutRing (n - 3) ps) (sym e));
 }
 
-module _ (ps : List Pt) (n : ℕ) (triangles : List ℕ) (s : Vertices) (left k : ℕ) (h : Inv ps n triangles s left k) (small : n ≤ mostPoints) where
+module _ (ps : List Pt) (proper : (c : Corner ℕ) → Proper (earOf ps c)) (n m : ℕ) (triangles : List ℕ) (s : Vertices) (left k : ℕ) (h : Inv ps n m triangles s left k) (small : n ≤ mostPoints) where
   put-size : (a b c : ℕ) → length (put3 triangles k a b c) ≡ mostIndices
   put-size a b c = simp length-set (h .size)
 
@@ -146,24 +146,23 @@ module _ (ps : List Pt) (n : ℕ) (triangles : List ℕ) (s : Vertices) (left k 
       ∙ sym (flat-more (h .written) (cornerAt s i))
 
   pub inv-more :
-      (i : ℕ) (v : Float) → 3 < left → pickFrom (s .active) (s .ears) (s .pointiness) Nothing 0 n ≡ At i v → (triangles' : List ℕ) (s' : Vertices)
-      → triangles' ≡ put3 triangles k (prevOf s i) i (nextOf s i) → s' ≡ clipped ps s i → Inv ps n triangles' s' (left - 1) (k + 3)
-  inv-more i v l e triangles' s' put clip =
-      let r = picked ps n s (h .stands) i v e in
-      rw (put, clip)
+      (i : ℕ) → 3 < left → At i ≡ rootOf (s .val) (s .win) → (triangles' : List ℕ) (s' : Vertices) → triangles' ≡ put3 triangles k (prevOf s i) i (nextOf s i) → Clipped ps n m s i s'
+      → Inv ps n m triangles' s' (left - 1) (k + 3)
+  inv-more i l e triangles' s' put clipped =
+      rw put
       (record {
         more = omega (arith, h .more);
         most = omega (arith, h .most);
         count = omega (arith, h .count);
         size = put-size (prevOf s i) i (nextOf s i);
-        stands = cut-rep ps n s (h .stands) small i (r .0) (r .1);
-        ring-size = omega (arith, h .ring-size, ring-less ps n s (h .stands) i v small e);
+        stands = clipped .stands;
+        ring-size = omega (arith, h .ring-size, ring-less ps proper n m s (h .stands) i e s' clipped);
         written = h .written ++ cornerAt s i ∷ [];
         store = put-store i;
         work =
             h .work
-            ∙ ap (writeAll (h .written)) (cut-some ps n s (h .stands) left i v l small e)
-            ∙ all-more (h .written) (cornerAt s i) (cutRing (left - 1 - 3) ps (ringIn n (clipped ps s i)));
+            ∙ ap (writeAll (h .written)) (cut-some ps proper n m s (h .stands) i e s' clipped left l)
+            ∙ all-more (h .written) (cornerAt s i) (cutRing (left - 1 - 3) ps (ringIn n s'));
       })
 
   -- ---- what comes back

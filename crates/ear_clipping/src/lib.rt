@@ -1,15 +1,21 @@
 // The cutter: after the crate's src/transformation/ear_clipping.rs.
+use blocking::flat::filled;
+use blocking::flat::flatten;
+use blocking::strips;
 use entries::Answer;
 use entries::MOST_INDICES;
 use entries::MOST_POINTS;
 use entries::wide_half;
 use entries::zeros;
 use grid::outline::outline_refusal;
-use vertices::Pick;
 use vertices::clip;
 use vertices::lowest;
-use vertices::pointiest;
 use vertices::start;
+use winners::Pick;
+use winners::leaves_for;
+use winners::no_corners;
+use winners::no_ears;
+use winners::pointiest;
 ghost use mathlib.Core.Path.{_≡_};
 ghost use mathlib.Core.Bool.{true, false};
 ghost use Prim.Native.Nat.{_+_, _-_, _*_, _≤_, _<_};
@@ -17,6 +23,7 @@ ghost use lib.ListN.{length};
 ghost use Rattle.rules.specs.Grid.{pointsOf};
 ghost use Rattle.rules.specs.Limits.{mostPoints, mostIndices};
 ghost use Rattle.rules.specs.Refusals.{offGrid, equalNeighbours, firstRefusal, beforeCutting};
+ghost use Rattle.blocking.specs.Outlined.{Outlined};
 ghost use Rattle.vertices.specs.Vertices.{place};
 ghost use Rattle.ear_clipping.specs.Store.{put3};
 ghost use Rattle.ear_clipping.specs.Promise.{Written, Promise};
@@ -94,9 +101,18 @@ fn put(
     triangles[k + 2] = wide_half(next[i]);
 }
 
-// Cuts an outline of n corners. Answers the number of triangles, or 0 where a ring has no ear; then nothing is written.
-fn cut(coords: &[f32], n: usize, indices: &mut [u32]) -> u32
+// Cuts an outline of n corners, whose points stand in flat coordinates and in strips. Answers the number of triangles, or 0 where a ring
+// has no ear; then nothing is written.
+fn cut_ring(
+    coords: &[f32],
+    xs: &[f32; MOST_POINTS],
+    ys: &[f32; MOST_POINTS],
+    strips: &[u64; 260],
+    n: usize,
+    indices: &mut [u32],
+) -> u32
     requires { ⌜ offGrid (now coords) ≡ false ⌝ }
+    requires { ⌜ Outlined (pointsOf (now coords)) (now xs) (now ys) (now strips) ⌝ }
     requires { ⌜ (3 ≤ n) × (n ≤ mostPoints) × (n ≡ length (pointsOf (now coords))) ⌝ }
     requires { ⌜ 3 * (n - 2) ≤ length (now indices) ⌝ }
     ensures { λ r. ⌜ Written (pointsOf (now (coords .entry))) (now (indices .entry)) r (now (indices .exit)) ⌝ }
@@ -105,34 +121,46 @@ fn cut(coords: &[f32], n: usize, indices: &mut [u32]) -> u32
     let mut prev = links();
     let mut next = links();
     let mut active = flags();
-    let mut ears = flags();
-    let mut pointiness = values();
+    let mut reciprocals = values();
+    let mut val = no_ears();
+    let mut win = no_corners();
+    let m = leaves_for(n);
     start(
         coords,
+        xs,
+        ys,
+        strips,
         n,
+        m,
         &mut prev,
         &mut next,
         &mut active,
-        &mut ears,
-        &mut pointiness,
+        &mut reciprocals,
+        &mut val,
+        &mut win,
     );
     let mut left = n;
     let mut k = 0;
     while 3 < left {
-        let best = pointiest(&active, &ears, &pointiness, n);
-        let Pick::At(i, _) = best else {
+        let best = pointiest(&val, &win);
+        let Pick::At(i) = best else {
             return 0;
         };
         put(&mut triangles, k, i, &prev, &next);
         clip(
             coords,
+            xs,
+            ys,
+            strips,
             n,
+            m,
             i,
             &mut prev,
             &mut next,
             &mut active,
-            &mut ears,
-            &mut pointiness,
+            &mut reciprocals,
+            &mut val,
+            &mut win,
         );
         k += 3;
         left -= 1;
@@ -141,6 +169,22 @@ fn cut(coords: &[f32], n: usize, indices: &mut [u32]) -> u32
     put(&mut triangles, k, i, &prev, &next);
     words::copy(&triangles[..k + 3], indices);
     (n - 2) as u32
+}
+
+// The same of an outline as it is lent.
+fn cut(coords: &[f32], n: usize, indices: &mut [u32]) -> u32
+    requires { ⌜ offGrid (now coords) ≡ false ⌝ }
+    requires { ⌜ (3 ≤ n) × (n ≤ mostPoints) × (n ≡ length (pointsOf (now coords))) ⌝ }
+    requires { ⌜ 3 * (n - 2) ≤ length (now indices) ⌝ }
+    ensures { λ r. ⌜ Written (pointsOf (now (coords .entry))) (now (indices .entry)) r (now (indices .exit)) ⌝ }
+{
+    let first = grid::point_at(coords, 0);
+    let mut xs = filled(first.x);
+    let mut ys = filled(first.y);
+    flatten(coords, &mut xs, &mut ys);
+    let mut masks = strips::empty();
+    strips::fill(coords, &mut masks);
+    cut_ring(coords, &xs, &ys, &masks, n, indices)
 }
 
 // Cuts an outline into triangles, by ears from the pointiest on: three indices each, in the order of the cuts.

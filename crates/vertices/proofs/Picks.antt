@@ -53,6 +53,12 @@ pub data Agree (corner : ℕ → Corner ℕ) : Pick → Choice (Corner ℕ) → 
   neither : Agree corner Nothing nothing
   same : (i : ℕ) (f : Float) → Agree corner (At i) (best (corner i) f)
 
+pub agree-nothing : {corner : ℕ → Corner ℕ} {c : Choice (Corner ℕ)} → Agree corner Nothing c → c ≡ nothing
+agree-nothing neither = refl
+
+pub agree-at : {corner : ℕ → Corner ℕ} {i : ℕ} {c : Choice (Corner ℕ)} → Agree corner (At i) c → (f : Float) × (c ≡ best (corner i) f)
+agree-at (same i f) = (f, refl)
+
 module _ (ps : List Pt) (proper : (c : Corner ℕ) → Proper (earOf ps c)) (n m : ℕ) (s : Vertices) (h : Stands ps n m s) where
   root-chosen : choose ps nothing (corners (ringIn n s)) ≡ choiceOf (cornerAt s) (winnerIn (s .val) (s .win) 1)
   unfolding earOf
