@@ -8,7 +8,7 @@ use mathlib.Core.Bool.{Bool, true, false}
 use mathlib.Core.List.{List}
 use borrow.Author.Tests.{ltb-true, ltb-false}
 use lib.Dec.{ltb}
-use lib.Ieee.{Float, nan, isNan}
+use lib.Ieee.{Float, nan}
 use lib.ListN.{length, getD, set, length-set}
 use lib.Seq.{getD-set-same, getD-set-other}
 use Rattle.algebra.specs.Lists.{countFrom}
@@ -16,10 +16,10 @@ use Rattle.algebra.specs.Rings.{Corner}
 use Rattle.algebra.proofs.Equal.{impossible}
 use Rattle.rules.specs.Plane.{Pt}
 use Rattle.rules.specs.Cut.{nothing}
-use Rattle.winners.specs.Keys.{lowest, keyOf, Proper, Nobody, decode, entryIn, winnerIn, Power, Leaves, Tree, LeafSame}
+use Rattle.winners.specs.Keys.{lowest, keyOf, Proper, Fair, none, Nobody, decode, entryIn, winnerIn, Power, Leaves, Tree, LeafSame}
 use Rattle.winners.specs.declared.Ear.{Ear}
 use Rattle.winners.specs.declared.Entry.{Entry}
-use Rattle.winners.proofs.Nodes.{lowest-number, proper-number, set-same, set-other}
+use Rattle.winners.proofs.Nodes.{proper-fair, set-same, set-other}
 use Rattle.winners.proofs.Roots.{decode-lowest}
 use Rattle.winners.proofs.Sizes.{power-small}
 use Rattle.vertices.specs.Ears.{earOf}
@@ -68,11 +68,11 @@ pub updated-leaves :
     (ps : List Pt) (proper : (c : Corner ℕ) → Proper (earOf ps c)) (n m : ℕ) (p q : List ℕ) (v : List Float) (w : List ℕ) → 1 ≤ m → m ≤ 512 → Updated ps n m p q v w → Leaves v w m
 updated-leaves ps proper n m p q v w least small h = record { long-val = h .long-val; long-win = h .long-win; least = least; small = small; numbers = λ k l i. number k l i }
   where
-    at : (j : ℕ) → j < m → (j < n) ⊎ (n ≤ j) → isNan (getD v (m + j) nan) ≡ false
-    at j l (inl i) = proper-number (proper (linkedCorner (place p) (place q) j)) (ap (λ (e : Entry). e .key) (h .ears j i))
-    at j l (inr i) = ap isNan (h .rest j l i) ∙ lowest-number
+    at : (j : ℕ) → j < m → (j < n) ⊎ (n ≤ j) → Fair (getD v (m + j) nan)
+    at j l (inl i) = proper-fair (proper (linkedCorner (place p) (place q) j)) (ap (λ (e : Entry). e .key) (h .ears j i))
+    at j l (inr i) = subst Fair (sym (h .rest j l i)) none
 
-    number : (k : ℕ) → m ≤ k → k < m + m → isNan (getD v k nan) ≡ false
+    number : (k : ℕ) → m ≤ k → k < m + m → Fair (getD v k nan)
     number k l i = let e : k ≡ m + (k - m) = omega arith in rw e (at (k - m) (omega arith) (lt-or-le (k - m) n))
 
 -- one corner more is linked

@@ -8,15 +8,15 @@ use mathlib.Core.List.{List}
 use lib.Dec.{T, eqb}
 use lib.ListN.{length, getD, set, length-set, replicate, length-replicate, getD-replicate}
 use lib.Seq.{getD-set-same, getD-set-other}
-use lib.Ieee.{Float, nan, binary32, isNan, fits, ofBits, toBits}
+use lib.Ieee.{Float, nan, binary32, lt, eq, le, isNan, fits, ofBits, toBits}
 use lib.Ieee.Bits.{ofBits-toBits}
-use Rattle.algebra.proofs.Equal.{eqb-true, impossible}
+use Rattle.algebra.proofs.Equal.{eqb-true, or-false, impossible}
 use Rattle.winners.specs.Tree as tree
 use Rattle.winners.specs.Tree.{Right, StandsBut, Differs}
 use Rattle.rules.specs.Ear as rules
 use Rattle.rules.specs.Cut.{Choice, nothing, better}
 use Rattle.winners.specs.Winners.{later}
-use Rattle.winners.specs.Keys.{lowest, keyOf, earIn, Proper, no, pointed, decode, entryIn, winnerIn, Nobody, BetterOf, Beside, Numbers, Leaves, Tree, LeafSame, LeafSet}
+use Rattle.winners.specs.Keys.{lowest, toEar, fromEar, keyOf, earIn, Proper, no, pointed, Fair, none, some, decode, entryIn, winnerIn, Nobody, BetterOf, Beside, Numbers, Leaves, Tree, LeafSame, LeafSet}
 use Rattle.winners.specs.declared.Ear.{Ear}
 use Rattle.winners.specs.declared.Entry.{Entry}
 use Rattle.winners.proofs.Repairs.{opposite, eqb-apart, unchanged, set-right, leaf-set, parent-set, parent-same, root-set}
@@ -29,6 +29,10 @@ lowest-number = refl
 
 pub nobody : (key : Float) (val : List Float) → key ≡ lowest → val ≡ replicate 1024 key → Nobody val
 nobody key val h e = record { long = ap length e ∙ length-replicate 1024 key; each = λ k l. ap (λ (x : List Float). getD x k nan) e ∙ getD-replicate 1024 k key nan l ∙ h }
+
+pub to-from : (e : rules.Ear) → toEar (fromEar e) ≡ e
+to-from rules.none = refl
+to-from (rules.pointed v) = refl
 
 -- what a part and one more corner give together
 later-one : (b : Choice ℕ) (i : ℕ) (e : rules.Ear) → later b (better nothing i e) ≡ better b i e
@@ -55,12 +59,26 @@ better-entry a b r t e f = record {
     which true q = inr q
     which false q = inl q
 
-number-better : (a b r : Entry) → BetterOf a b r → isNan (a .key) ≡ false → isNan (b .key) ≡ false → isNan (r .key) ≡ false
-number-better a b r w p q = go (w .one)
+fair-better : (a b r : Entry) → BetterOf a b r → Fair (a .key) → Fair (b .key) → Fair (r .key)
+fair-better a b r w p q = go (w .one)
   where
-    go : (r ≡ a) ⊎ (r ≡ b) → isNan (r .key) ≡ false
-    go (inl e) = ap (λ (x : Entry). isNan (x .key)) e ∙ p
-    go (inr e) = ap (λ (x : Entry). isNan (x .key)) e ∙ q
+    go : (r ≡ a) ⊎ (r ≡ b) → Fair (r .key)
+    go (inl e) = subst (λ (x : Entry). Fair (x .key)) (sym e) p
+    go (inr e) = subst (λ (x : Entry). Fair (x .key)) (sym e) q
+
+pub fair-number : {key : Float} → Fair key → isNan key ≡ false
+fair-number none = lowest-number
+fair-number (some n h) = n
+
+pub not-lowest : (v : Float) → le v lowest ≡ false → eq v lowest ≡ false
+unfolding le
+not-lowest v h = or-false (lt v lowest) (eq v lowest) h .1
+
+-- what stands for an ear is its key
+pub fair-ear : {key : Float} → Fair key → Proper (fromEar (earIn key))
+unfolding earIn eq
+fair-ear none = no
+fair-ear (some {v} n h) = subst (λ (t : Bool). Proper (fromEar (cond t rules.none (rules.pointed v)))) (sym (not-lowest v h)) (pointed n h)
 
 -- ---- one entry set
 
@@ -81,7 +99,7 @@ module _ (val : List Float) (win : List ℕ) (k : ℕ) (e : Entry) where
   differs = record { other = λ j n. ap decode (set-other j n) }
 
   -- f was the first number, and now g is
-  numbers-set : (m f g : ℕ) → k < m + m → isNan (e .key) ≡ false → ((j : ℕ) → g ≤ j → j ≢ k → f ≤ j) → Numbers val win m f → Numbers val' win' m g
+  numbers-set : (m f g : ℕ) → k < m + m → Fair (e .key) → ((j : ℕ) → g ≤ j → j ≢ k → f ≤ j) → Numbers val win m f → Numbers val' win' m g
   numbers-set m f g h n reach s =
       record {
         long-val = length-set val k (e .key) ∙ s .long-val;
@@ -91,7 +109,7 @@ module _ (val : List Float) (win : List ℕ) (k : ℕ) (e : Entry) where
         numbers = λ j p q. go j p q (eqb j k) refl;
       }
     where
-      go : (j : ℕ) → g ≤ j → j < m + m → (b : Bool) → eqb j k ≡ b → isNan (getD val' j nan) ≡ false
+      go : (j : ℕ) → g ≤ j → j < m + m → (b : Bool) → eqb j k ≡ b → Fair (getD val' j nan)
       go j p q true z = rw (eqb-true j k z, getD-set-same val k (e .key) nan (omega (arith, s .long-val, s .small))) n
       go j p q false z = rw (getD-set-other val k j (e .key) nan (eqb-apart j k z)) (s .numbers j (reach j p (eqb-apart j k z)) q)
 
@@ -103,23 +121,23 @@ module _ (val : List Float) (win : List ℕ) (k : ℕ) (e : Entry) where
 
 -- node k becomes what its children give
 put-right : (val : List Float) (win : List ℕ) (m f k : ℕ) (e : Entry) → f ≤ k * 2 → k < m → Numbers val win m f → BetterOf (entryIn val win (k * 2)) (entryIn val win (k * 2 + 1)) e
-    → (isNan (e .key) ≡ false) × (decode e ≡ later (winnerIn val win (k * 2)) (winnerIn val win (k * 2 + 1)))
+    → Fair (e .key) × (decode e ≡ later (winnerIn val win (k * 2)) (winnerIn val win (k * 2 + 1)))
 put-right val win m f k e h p s g =
     let a = s .numbers (k * 2) h (omega arith) in
     let b = s .numbers (k * 2 + 1) (omega arith) (omega arith) in
-    (number-better (entryIn val win (k * 2)) (entryIn val win (k * 2 + 1)) e g a b, g .wins)
+    (fair-better (entryIn val win (k * 2)) (entryIn val win (k * 2 + 1)) e g a b, g .wins)
 
 pub number-children : (val : List Float) (win : List ℕ) (m k : ℕ) (e : Entry) → 1 ≤ k → k < m → Numbers val win m 1 → BetterOf (entryIn val win (k * 2)) (entryIn val win (k * 2 + 1)) e
     → (isNan (e .key) ≡ false) × (isNan (getD val k nan) ≡ false)
-number-children val win m k e h p s g = (put-right val win m 1 k e (omega arith) p s g .0, s .numbers k h (omega arith))
+number-children val win m k e h p s g = (fair-number (put-right val win m 1 k e (omega arith) p s g .0), fair-number (s .numbers k h (omega arith)))
 
 -- an entry that is set is what stands there
 pub own-entry : (val : List Float) (win : List ℕ) (m f k : ℕ) (e : Entry) → Numbers val win m f → k < m + m → e ≡ entryIn (set val k (e .key)) (set win k (e .corner)) k
 own-entry val win m f k e s h = sym (set-same val win k e (omega (arith, s .long-val, s .small)) (omega (arith, s .long-win, s .small)))
 
-pub proper-number : {e : Ear} → Proper e → {key : Float} → key ≡ keyOf e → isNan key ≡ false
-proper-number no q = ap isNan q ∙ lowest-number
-proper-number (pointed n h) q = ap isNan q ∙ n
+pub proper-fair : {e : Ear} → Proper e → {key : Float} → key ≡ keyOf e → Fair key
+proper-fair no q = subst Fair (sym q) none
+proper-fair (pointed n h) q = subst Fair (sym q) (some n h)
 
 -- ---- up from a leaf
 
@@ -130,7 +148,7 @@ pub record Climb (val₀ : List Float) (win₀ : List ℕ) (m : ℕ) (val : List
   pub above : 1 ≤ k
   pub inside : k < m + m
 
-pub climb-start : (val : List Float) (win : List ℕ) (m i c : ℕ) (key : Float) → Tree val win m → i < m → isNan key ≡ false → c ≡ i
+pub climb-start : (val : List Float) (win : List ℕ) (m i c : ℕ) (key : Float) → Tree val win m → i < m → Fair key → c ≡ i
     → Climb (set val (m + i) key) (set win (m + i) c) m (set val (m + i) key) (set win (m + i) c) (m + i)
 climb-start val win m i c key t h n z =
     let e : Entry = record { key = key; corner = c } in
@@ -212,7 +230,7 @@ build-step val₀ win₀ m val win k e h b g =
         go false z = omega arith
 
     at : (j : ℕ) → k - 1 ≤ j → j < m → (t : Bool) → eqb j (k - 1) ≡ t → k - 1 < m
-        → (isNan (e .key) ≡ false) × (decode e ≡ later (winnerIn val win ((k - 1) * 2)) (winnerIn val win ((k - 1) * 2 + 1)))
+        → Fair (e .key) × (decode e ≡ later (winnerIn val win ((k - 1) * 2)) (winnerIn val win ((k - 1) * 2 + 1)))
         → Right later (winnerIn (set val (k - 1) (e .key)) (set win (k - 1) (e .corner))) j
     at j p q true z l r =
         let s : j ≡ k - 1 = eqb-true j (k - 1) z in
@@ -268,3 +286,7 @@ beside-second val win k o own r h e w = record { children = λ q. go (ap (entryI
 -- of a first child, both are the children of its parent
 pub first-child : (val : List Float) (win : List ℕ) (k : ℕ) (r : Entry) → Beside val win (k * 2) (entryIn val win (k * 2)) r → BetterOf (entryIn val win (k * 2)) (entryIn val win (k * 2 + 1)) r
 first-child val win k r w = let e : k * 2 / 2 ≡ k = omega arith in subst (λ (j : ℕ). BetterOf (entryIn val win (j * 2)) (entryIn val win (j * 2 + 1)) r) e (w .children refl)
+
+-- the keys of a node and of the one beside it
+pub fair-pair : (val : List Float) (win : List ℕ) (m f k : ℕ) → f ≤ k / 2 * 2 → 2 ≤ k → k < m + m → Numbers val win m f → Fair (getD val k nan) × Fair (getD val (k / 2 * 4 + 1 - k) nan)
+fair-pair val win m f k h two low s = (s .numbers k (omega arith) low, s .numbers (k / 2 * 4 + 1 - k) (omega arith) (omega arith))

@@ -6,7 +6,7 @@ use mathlib.Core.Bool.{true, false, cond}
 use mathlib.Core.List.{List}
 use lib.IntN.{pos}
 use lib.ListN.{length, getD, set}
-use lib.Ieee.{Float, nan, fin, le, isNan}
+use lib.Ieee.{Float, nan, fin, eq, le, isNan}
 use Rattle.rules.specs.Ear as rules
 use Rattle.rules.specs.Cut.{Choice, nothing, better}
 use Rattle.winners.specs.Tree as tree
@@ -34,13 +34,18 @@ keyOf No = lowest
 keyOf (Pointed v) = v
 
 unfoldable pub earIn : Float → rules.Ear
-unfolding le
-earIn key = cond (le key lowest) rules.none (rules.pointed key)
+unfolding eq
+earIn key = cond (eq key lowest) rules.none (rules.pointed key)
 
 -- an ear whose key stands for it
 pub data Proper : Ear → Type 0 where
   no : Proper No
   pointed : {v : Float} → isNan v ≡ false → le v lowest ≡ false → Proper (Pointed v)
+
+-- the key of such an ear
+pub data Fair : Float → Type 0 where
+  none : Fair lowest
+  some : {v : Float} → isNan v ≡ false → le v lowest ≡ false → Fair v
 
 unfoldable pub decode : Entry → Choice ℕ
 unfolding better earIn
@@ -66,13 +71,13 @@ pub record Nobody (val : List Float) : Type 0 where
   pub long : length val ≡ 1024
   pub each : (k : ℕ) → k < 1024 → getD val k nan ≡ lowest
 
--- the arrays have room, and no key is a NaN
+-- the arrays have room, and each key stands for an ear
 pub record Numbers (val : List Float) (win : List ℕ) (m from : ℕ) : Type 0 where
   pub long-val : length val ≡ 1024
   pub long-win : length win ≡ 1024
   pub least : 1 ≤ m
   pub small : m ≤ 512
-  pub numbers : (k : ℕ) → from ≤ k → k < m + m → isNan (getD val k nan) ≡ false
+  pub numbers : (k : ℕ) → from ≤ k → k < m + m → Fair (getD val k nan)
 
 -- only the leaves are there
 abbrev pub Leaves : List Float → List ℕ → ℕ → Type 0

@@ -2,11 +2,11 @@
 // is a power of two. A node holds the better of its children's ears, of equals the later, and its corner.
 ghost use mathlib.Core.Path.{_≡_};
 ghost use mathlib.Core.Bool.{true, false, cond};
-ghost use Prim.Native.Nat.{ℕ, _+_, _*_, _/_, _<_, _≤_};
-ghost use lib.Ieee.{isNan};
-ghost use lib.ListN.{length, replicate, set};
+ghost use Prim.Native.Nat.{ℕ, _+_, _*_, _-_, _/_, _<_, _≤_};
+ghost use lib.Ieee.{isNan, nan};
+ghost use lib.ListN.{length, getD, replicate, set};
 ghost use Rattle.rules.specs.Cut.{nothing, better};
-ghost use Rattle.winners.specs.Keys.{Nobody, toEar, keyOf, earIn, Proper, entryIn, BetterOf, Beside, Tree, Leaves, LeafSame, LeafSet, Power, rootOf};
+ghost use Rattle.winners.specs.Keys.{Nobody, toEar, fromEar, keyOf, earIn, Proper, Fair, entryIn, BetterOf, Beside, Tree, Leaves, LeafSame, LeafSet, Power, rootOf};
 
 // A corner is either no ear, or an ear that carries its pointiness.
 pub enum Ear {
@@ -50,31 +50,27 @@ fn key_of(e: Ear) -> f32
 }
 
 fn ear_of(key: f32) -> Ear
-    ensures { λ r. ⌜ toEar r ≡ earIn key ⌝ }
+    ensures { λ r. ⌜ r ≡ fromEar (earIn key) ⌝ }
 {
-    if key <= -16777216.0 {
+    if key == -16777216.0 {
         Ear::No
     } else {
         Ear::Pointed(key)
     }
 }
 
-// Whether the later ear b is taken rather than a.
+// Whether the later ear b is taken rather than a: it is no less pointed. None is less pointed than any.
 fn takes_later(a: Ear, b: Ear) -> bool
+    requires { ⌜ Proper a × Proper b ⌝ }
     ensures { λ r. ⌜
         ((i j : ℕ) → better (better nothing i (toEar a)) j (toEar b) ≡ cond r (better nothing j (toEar b)) (better nothing i (toEar a)))
         ⌝ }
 {
-    match b {
-        Ear::No => false,
-        Ear::Pointed(w) => match a {
-            Ear::No => true,
-            Ear::Pointed(v) => v <= w,
-        },
-    }
+    key_of(a) <= key_of(b)
 }
 
 fn better_of(a: Entry, b: Entry) -> Entry
+    requires { ⌜ Fair (a .key) × Fair (b .key) ⌝ }
     ensures { λ r. ⌜ BetterOf a b r ⌝ }
 {
     if takes_later(ear_of(a.key), ear_of(b.key)) {
@@ -148,6 +144,7 @@ pub fn build(val: &mut [f32; 1024], win: &mut [u16; 1024], m: usize)
 // The better of node k, which holds `own`, and the node beside it, its parent's other child.
 fn beside(val: &[f32; 1024], win: &[u16; 1024], k: usize, own: Entry) -> Entry
     requires { ⌜ (2 ≤ k) × (k < 1024) ⌝ }
+    requires { ⌜ Fair (own .key) × Fair (getD (now val) (k / 2 * 4 + 1 - k) nan) ⌝ }
     ensures { λ r. ⌜ Beside (now (val .entry)) (now (win .entry)) k own r ⌝ }
 {
     let o = k / 2 * 4 + 1 - k;

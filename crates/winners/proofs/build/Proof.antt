@@ -1,7 +1,7 @@
 -- `build` meets its contract. The invariant: the nodes from k on are right.
-use Prim.Native.Nat.{_-_}
+use Prim.Native.Nat.{_-_, _*_}
 use native.Mathlib.Omega.{arith}
-use Rattle.winners.proofs.Nodes.{Built, build-start, build-step, build-end, first-child}
+use Rattle.winners.proofs.Nodes.{Built, build-start, build-step, build-end, first-child, fair-pair}
 use Rattle.winners.proofs.build.Statement.{statement}
 use Rattle.winners.proofs.build.Tie as tie
 use Rattle.winners.proofs.build.Reads as reads
@@ -36,7 +36,10 @@ element-copy-out-t16 : tie.Need-element-copy-out-t16 Inv-loop μ-loop
 element-copy-out-t16 c = omega arith
 
 beside-requires : tie.Need-beside-requires Inv-loop μ-loop
-beside-requires c κs = omega arith
+beside-requires c κs =
+    let l = c .before .before .before .before .before .loop in
+    let inv = l .inv in
+    (omega (arith, inv .most, inv .numbers .small), fair-pair _ _ _ _ ((l .k - 1) * 2) (omega arith) (omega arith) (omega (arith, inv .most)) (inv .numbers))
 
 mul-val : tie.Need-mul-val Inv-loop μ-loop
 mul-val c = omega arith

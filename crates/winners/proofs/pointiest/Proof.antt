@@ -6,7 +6,8 @@ use lib.ListN.{getD}
 use lib.Ieee.{Float, nan}
 use denote.Ref.{now}
 use Rattle.rules.specs.Ear as rules
-use Rattle.winners.specs.Keys.{toEar, earIn, pickOf, rootOf}
+use Rattle.winners.specs.Keys.{toEar, fromEar, earIn, pickOf, rootOf}
+use Rattle.winners.proofs.Nodes.{to-from}
 use Rattle.winners.specs.declared.Ear.{Ear}
 use Rattle.winners.specs.declared.Ear.the-variants.{No, Pointed}
 use Rattle.winners.specs.declared.Pick.the-variants.{Nothing, At}
@@ -18,14 +19,17 @@ use Rattle.winners.proofs.pointiest.Lts as lts
 use Rattle.winners.proofs.ear_of.Reads as ear-of-reads
 use Rattle.winners.proofs.wide.Reads as wide-reads
 
-module _ (val : List Float) (win : List ℕ) (e : Ear) (h : toEar e ≡ earIn (getD val 1 nan)) where
+module _ (val : List Float) (win : List ℕ) (e : Ear) (h : e ≡ fromEar (earIn (getD val 1 nan))) where
+  root : toEar e ≡ earIn (getD val 1 nan)
+  root = ap toEar h ∙ to-from (earIn (getD val 1 nan))
+
   none : e ≡ No → Nothing ≡ rootOf val win
   unfolding rootOf
-  none q = ap (λ (x : rules.Ear). pickOf x (getD win 1 0)) (ap toEar (sym q) ∙ h)
+  none q = ap (λ (x : rules.Ear). pickOf x (getD win 1 0)) (ap toEar (sym q) ∙ root)
 
   some : (v : Float) → e ≡ Pointed v → (i : ℕ) → i ≡ getD win 1 0 → At i ≡ rootOf val win
   unfolding rootOf
-  some v q i w = ap At w ∙ ap (λ (x : rules.Ear). pickOf x (getD win 1 0)) (ap toEar (sym q) ∙ h)
+  some v q i w = ap At w ∙ ap (λ (x : rules.Ear). pickOf x (getD win 1 0)) (ap toEar (sym q) ∙ root)
 
 element-copy-out-ear-of : tie.Need-element-copy-out-ear-of
 element-copy-out-ear-of c = search needs

@@ -2,7 +2,7 @@
 use mathlib.Core.Path.{_≡_, refl}
 use native.Mathlib.Omega.{arith}
 use Rattle.winners.specs.Keys.{entryIn}
-use Rattle.winners.proofs.Nodes.{Climb, number-children, climb-start, climb-step, climb-same, climb-end, climbed, own-entry, proper-number}
+use Rattle.winners.proofs.Nodes.{Climb, number-children, climb-start, climb-step, climb-same, climb-end, climbed, own-entry, proper-fair, fair-pair}
 use Rattle.winners.proofs.set_ear.Statement.{statement}
 use Rattle.winners.proofs.set_ear.Tie as tie
 use Rattle.winners.proofs.set_ear.Reads as reads
@@ -42,13 +42,16 @@ element-write-win c = omega arith
 loop-holds : tie.Need-loop-holds Inv-loop μ-loop
 loop-holds c =
     let s = c .before .before in
-    let n = proper-number (s .pre .1 .1) (c .before .key-of .ensures) in (
+    let n = proper-fair (s .pre .1 .1) (c .before .key-of .ensures) in (
       climb-start _ _ _ _ _ _ (s .pre .0) (s .pre .1 .0) n (c .narrow .ensures),
       own-entry _ _ _ _ _ _ (s .pre .0 .numbers) (omega (arith, s .pre .1 .0)),
     )
 
 beside-requires : tie.Need-beside-requires Inv-loop μ-loop
-beside-requires c κs = omega arith
+beside-requires c κs =
+    let l = c .before .before .before .loop in
+    let w = fair-pair _ _ _ _ (l .k) (omega arith) (omega arith) (l .inv .0 .inside) (l .inv .0 .numbers) in
+    (omega (arith, l .inv .0 .inside, l .inv .0 .numbers .small), (rw (l .inv .1) (w .0), w .1))
 
 mul-holds : tie.Need-mul-holds Inv-loop μ-loop
 mul-holds c = omega arith

@@ -1,53 +1,43 @@
 -- `takes_later` meets its contract.
 use Prim.Native.Nat.{ℕ}
-use mathlib.Core.Path.{_≡_, refl, sym, ap, _∙_}
+use mathlib.Core.Path.{_≡_, refl, sym, ap, ap₂, _∙_}
 use mathlib.Core.Bool.{Bool, true, false, cond}
 use lib.Ieee.{Float, le}
-use Rattle.rules.specs.Cut.{nothing, better}
-use Rattle.winners.specs.Keys.{toEar}
+use Rattle.rules.specs.Cut.{Choice, nothing, better}
+use Rattle.rules.proofs.FloatOrder.{le-total}
+use Rattle.winners.specs.Keys.{lowest, toEar, keyOf, Proper, no, pointed}
 use Rattle.winners.specs.declared.Ear.{Ear}
-use Rattle.winners.specs.declared.Ear.the-variants.{No, Pointed}
+use Rattle.winners.proofs.Nodes.{lowest-number}
 use borrow.Author.Needs.{needs}
 use Rattle.winners.proofs.takes_later.Statement.{statement}
 use Rattle.winners.proofs.takes_later.Tie as tie
 use Rattle.winners.proofs.takes_later.Reads as reads
 use Rattle.winners.proofs.takes_later.Lts as lts
+use Rattle.winners.proofs.key_of.Reads as key-of-reads
 
-module _ (a b : Ear) (i j : ℕ) where
-  none-later : b ≡ No → better (better nothing i (toEar a)) j (toEar b) ≡ better nothing i (toEar a)
-  unfolding better
-  none-later e = rw e
+neither : (t : Bool) → _≡_ {A = Choice ℕ} nothing (cond t nothing nothing)
+neither true = refl
+neither false = refl
 
-  only-later : (w : Float) → b ≡ Pointed w → a ≡ No → better (better nothing i (toEar a)) j (toEar b) ≡ better nothing j (toEar b)
-  unfolding better
-  only-later w e f = rw (e, f)
+-- the later of two by their keys
+by-keys : {a b : Ear} → Proper a → Proper b → (i j : ℕ) → better (better nothing i (toEar a)) j (toEar b) ≡ cond (le (keyOf a) (keyOf b)) (better nothing j (toEar b)) (better nothing i (toEar a))
+unfolding better
+by-keys no no i j = neither (le lowest lowest)
+by-keys no (pointed {v = w} n h) i j = rw (le-total w lowest n lowest-number h)
+by-keys (pointed n h) no i j = rw h
+by-keys (pointed n h) (pointed m k) i j = refl
 
-  both : (v w : Float) → b ≡ Pointed w → a ≡ Pointed v → better (better nothing i (toEar a)) j (toEar b) ≡ cond (le v w) (better nothing j (toEar b)) (better nothing i (toEar a))
-  unfolding better
-  both v w e f = rw (e, f)
+key-of-requires : tie.Need-key-of-requires
+key-of-requires c κs = search needs
 
-enum-told : tie.Need-enum-told
-enum-told c = search needs
-
-enum-known-b : tie.Need-enum-known-b
-enum-known-b c = search needs
-
-enum-told-2 : tie.Need-enum-told-2
-enum-told-2 c = search needs
-
-enum-known-a : tie.Need-enum-known-a
-enum-known-a c = search needs
+key-of-requires-2 : tie.Need-key-of-requires-2
+key-of-requires-2 c κs = search needs
 
 returns : tie.Need-returns
-returns c = λ i j. none-later (c .before .before .args .a) (c .before .before .args .b) i j (c .enum-told .given .1)
-
-returns-2 : tie.Need-returns-2
-returns-2 c = λ i j. only-later _ _ i j _ (c .before .before .before .b .given .1) (c .enum-told2 .given .1)
-
-returns-3 : tie.Need-returns-3
-returns-3 c = λ i j. both _ _ i j _ _ (c .before .before .before .before .b .given .1) (c .before .a .given .1)
+returns c =
+    let s = c .before .before in
+    let e = ap₂ le (c .before .key-of .ensures) (c .key-of2 .ensures) in
+    λ i j. by-keys (s .pre .0) (s .pre .1) i j ∙ ap (λ (t : Bool). cond t (better nothing j (toEar (s .args .b))) (better nothing i (toEar (s .args .a)))) (sym e)
 
 pub takes-later-spec : {M : Type 1} → statement M
-takes-later-spec =
-    tie.close
-    (tie.spec enum-told enum-known-b enum-told-2 enum-known-a returns returns-2 returns-3)
+takes-later-spec = tie.close (tie.spec key-of-requires key-of-requires-2 returns)
