@@ -2,6 +2,8 @@
 //! program `replay`, for which records are written.
 extern crate alloc;
 
+#[cfg(feature = "cgal")]
+pub mod cgal;
 #[cfg(feature = "linked")]
 pub mod checks;
 pub mod cutter;

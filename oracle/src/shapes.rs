@@ -58,3 +58,17 @@ pub fn cover(n: usize) -> Outline {
         side.min(900.0) + 90.0 * (1.0 - (from_bolt * 5.0).powi(2)).max(0.0)
     })
 }
+
+/// Convex, and no two edges go the same way: the shortest steps of the grid that are no multiple of a shorter one, each with its opposite, by
+/// their angle. An odd number of corners is rounded down.
+pub fn round(n: usize) -> Outline {
+    let shortest = |x: i32, y: i32| (2..=20).all(|d| x % d != 0 || y % d != 0);
+    let mut half: Outline = (-20..=20).flat_map(|x| (0..=20).map(move |y| (x, y))).filter(|&(x, y)| (y > 0 || x > 0) && shortest(x, y)).collect();
+    half.sort_by_key(|&(x, y)| (x * x + y * y, x));
+    half.truncate(n / 2);
+    half.sort_by(|&(x, y), &(v, w)| f64::from(y).atan2(f64::from(x)).total_cmp(&f64::from(w).atan2(f64::from(v))));
+    let across = half.iter().fold((0, 0), |(x, y), step| (x + step.0, y + step.1));
+    let back: Outline = half.iter().map(|&(x, y)| (-x, -y)).collect();
+    let corner = |at: &mut (i32, i32), (x, y): (i32, i32)| Some(std::mem::replace(at, (at.0 + x, at.1 + y)));
+    half.into_iter().chain(back).scan((-across.0 / 2, -across.1 / 2), corner).collect()
+}

@@ -10,9 +10,6 @@ pub const MOST_POINTS: usize = 512;
 
 pub const MOST_COORDINATES: usize = 2 * MOST_POINTS;
 
-// Of an outline that is read into less room.
-pub const FEW_COORDINATES: usize = 128;
-
 // Of a list that is cut or merged.
 pub const MOST_TRIANGLES: usize = MOST_POINTS - 2;
 
@@ -46,13 +43,6 @@ pub fn no_floats() -> [f32; MOST_COORDINATES]
     ensures { λ r. ⌜ length r ≡ mostCoordinates ⌝ }
 {
     [0.0f32; MOST_COORDINATES]
-}
-
-// Room for few coordinates, which is sooner cleared.
-pub fn few_floats() -> [f32; FEW_COORDINATES]
-    ensures { λ r. ⌜ length r ≡ 128 ⌝ }
-{
-    [0.0f32; FEW_COORDINATES]
 }
 
 pub fn either(s: bool, t: bool) -> bool

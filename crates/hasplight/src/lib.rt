@@ -4,10 +4,8 @@ mod room;
 pub mod text;
 
 use entries::Answer;
-use entries::FEW_COORDINATES;
 use entries::MOST_INDICES;
 use entries::MOST_POINTS;
-use entries::few_floats;
 use entries::no_floats;
 use entries::wide;
 use entries::zeros;
@@ -127,23 +125,11 @@ fn told(v: point_in_poly2d::Verdict) -> Verdict
     }
 }
 
-// One of the two point tests. A small outline is read into less room, which is sooner cleared.
+// One of the two point tests.
 fn ask(x: f32, y: f32, coords: &[u8], convex: bool) -> Verdict
     ensures { λ r. ⌜ PointPromise (testOf convex) x y (now (coords .entry)) r ⌝ }
 {
-    let n = coords.len() / 4;
-    let number = count_refusal(0, MOST_POINTS, n);
-    if number != 0 {
-        return Verdict { number, answer: 0 };
-    }
-    if n <= FEW_COORDINATES {
-        let mut few = few_floats();
-        read_floats(coords, &mut few);
-        return told(point_in_poly2d::ask(x, y, &few[..n], convex));
-    }
-    let mut floats = no_floats();
-    read_floats(coords, &mut floats);
-    told(point_in_poly2d::ask(x, y, &floats[..n], convex))
+    told(point_in_poly2d::bytes::ask(x, y, coords, convex))
 }
 
 #[no_mangle]

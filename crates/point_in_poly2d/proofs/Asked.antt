@@ -10,7 +10,7 @@ use Rattle.algebra.proofs.Equal.{or-false, not-false}
 use Rattle.rules.specs.Limits.{mostPoints}
 use Rattle.rules.specs.Plane.{Pt}
 use Rattle.rules.specs.Grid.{onGrid, pointOf, pointsOf}
-use Rattle.rules.specs.Refusals.{offGrid, firstRefusal, pointTestChecks}
+use Rattle.rules.specs.Refusals.{_gives_, offGrid, firstRefusal, outlineChecks, pointTestChecks}
 use Rattle.rules.specs.Entries.{Asking, asking, pointInPoly2d, pointInConvexPoly2d}
 use Rattle.rules.proofs.Rows.{passes, front-none, others-decide}
 use Rattle.rules.proofs.Fronts.{asked-front}
@@ -39,6 +39,13 @@ module _ (test : Pt → List Pt → Bool) (x y : Float) (cs : List Float) (n : �
 
   pub answered : n ≡ 0 → {t : Bool} → t ≡ test (pointOf x y) (pointsOf cs) → cond t Inside Outside ≡ verdict (asking false test x y cs)
   answered e i = ap (λ (b : Bool). cond b Inside Outside) i ∙ sym (ap verdict (asking-answered false test x y cs (number-is ∙ e)))
+
+-- ---- the outline's rows stand in front of the asked point's
+
+pub spot-decides :
+    (x y : Float) (cs : List Float) {n m : ℕ} → n ≡ firstRefusal (outlineChecks 0 mostPoints cs) → n ≡ 0 → m ≡ firstRefusal (offGrid (x ∷ y ∷ []) gives 4 ∷ [])
+    → m ≡ firstRefusal (pointTestChecks x y cs)
+spot-decides x y cs e none is = is ∙ sym (others-decide (asked-front x y cs) (sym e ∙ none))
 
 -- ---- what is known where none applies
 

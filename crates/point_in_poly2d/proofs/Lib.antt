@@ -1,2 +1,4 @@
 pub mod Crossings
+pub mod Ring
+pub mod Words
 pub mod Asked

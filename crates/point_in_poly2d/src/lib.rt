@@ -1,4 +1,6 @@
 // The point tests: after the crate's src/utils/point_in_poly2d.rs.
+pub mod bytes;
+
 use entries::MOST_POINTS;
 use entries::either;
 use grid::outline::outline_refusal;
@@ -6,10 +8,11 @@ use grid::point::Point;
 use grid::point_in_triangle::corner_direction;
 ghost use mathlib.Core.Path.{_≡_};
 ghost use mathlib.Core.Bool.{true, false};
+ghost use mathlib.Core.List.{[], _∷_};
 ghost use Rattle.algebra.specs.Sums.{xor};
 ghost use Rattle.rules.specs.Grid.{pointsOf};
 ghost use Rattle.rules.specs.Crossing.{crossed};
-ghost use Rattle.rules.specs.Refusals.{offGrid, firstRefusal, pointTestChecks};
+ghost use Rattle.rules.specs.Refusals.{_gives_, offGrid, firstRefusal, pointTestChecks};
 ghost use Rattle.rules.specs.Entries.{asking, pointInPoly2d, pointInConvexPoly2d};
 ghost use Rattle.grid.specs.Points.{onGridPt, ptOf};
 ghost use Rattle.point_in_poly2d.specs.Edges.{passed, toldBy};
@@ -23,6 +26,19 @@ pub enum Verdict {
     Inside,
 }
 
+// The refusal of the asked point alone, and 0 where it is on the grid.
+fn spot_refusal(x: f32, y: f32) -> u32
+    ensures { λ r. ⌜ r ≡ firstRefusal (offGrid (x ∷ y ∷ []) gives 4 ∷ []) ⌝ }
+{
+    if !grid::on_grid(x) {
+        return 4;
+    }
+    if !grid::on_grid(y) {
+        return 4;
+    }
+    0
+}
+
 // The number of the first refusal that applies, and 0 where none does.
 fn refusal(x: f32, y: f32, coords: &[f32]) -> u32
     ensures { λ r. ⌜ r ≡ firstRefusal (pointTestChecks x y (now (coords .entry))) ⌝ }
@@ -31,13 +47,7 @@ fn refusal(x: f32, y: f32, coords: &[f32]) -> u32
     if number != 0 {
         return number;
     }
-    if !grid::on_grid(x) {
-        return 4;
-    }
-    if !grid::on_grid(y) {
-        return 4;
-    }
-    0
+    spot_refusal(x, y)
 }
 
 // Whether p crosses the edge a to b.
@@ -108,7 +118,8 @@ fn told(s: Seen, convex: bool) -> bool
     s.odd
 }
 
-// One of the two tests: of the crossings, or where `convex` of the sides of all edges.
+// One of the two tests: of the crossings, or where `convex` of the sides of all edges. The edge from the last point to the first is passed
+// first, so that every edge is a turn of the loop.
 fn walk(p: Point, coords: &[f32], convex: bool) -> bool
     requires { ⌜ onGridPt p ≡ true ⌝ }
     requires { ⌜ offGrid (now coords) ≡ false ⌝ }
@@ -118,21 +129,20 @@ fn walk(p: Point, coords: &[f32], convex: bool) -> bool
     if n == 0 {
         return false;
     }
-    let first = grid::point_at(coords, 0);
     let mut seen = Seen {
         odd: false,
         left: false,
         right: false,
     };
-    let mut a = first;
-    let mut i = 1;
+    let mut a = grid::point_at(coords, n - 1);
+    let mut i = 0;
     while i < n {
         let b = grid::point_at(coords, i);
         seen = pass(seen, p, a, b, convex);
         a = b;
         i += 1;
     }
-    told(pass(seen, p, a, first, convex), convex)
+    told(seen, convex)
 }
 
 // What either test answers of (x, y): the refusal, or what the test says.

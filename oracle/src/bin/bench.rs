@@ -1,7 +1,7 @@
-//! bench: ours and the crate's on the same inputs in one run; prints a table of times and ratios.
+//! bench: ours and the crate's, and CGAL's where it is linked, on the same inputs in one run; prints a table of times and ratios.
 use oracle::lent::{bytes_of_floats, words};
 use oracle::math::Vector;
-use oracle::shapes::{coords, KINDS};
+use oracle::shapes::{coords, round, Outline, KINDS};
 use oracle::text::{self, multipolygon, polygon};
 use oracle::{ours, parry};
 use std::hint::black_box;
@@ -27,54 +27,124 @@ fn time(mut call: impl FnMut()) -> f64 {
         .fold(f64::INFINITY, f64::min)
 }
 
-fn row(kind: &str, n: usize, job: &str, ours: f64, theirs: f64) {
-    println!("| {kind} | {n} | {job} | {:.2} | {:.2} | {:.2} |", ours / 1000.0, theirs / 1000.0, ours / theirs);
+fn row(kind: &str, n: usize, job: &str, ours: f64, theirs: f64, partitions: &str) {
+    println!("| {kind} | {n} | {job} | {:.2} | {:.2} | {:.2} |{partitions}", ours / 1000.0, theirs / 1000.0, ours / theirs);
 }
 
-fn measure(kind: &str, n: usize, outline: &[(i32, i32)]) {
-    let floats = coords(outline);
-    let bytes = bytes_of_floats(&floats);
-    let points: Vec<Vector> = floats.chunks_exact(2).map(|c| Vector { x: c[0], y: c[1] }).collect();
-    let mut indices = vec![0u8; 12 * (n - 2)];
-    let mut lengths = vec![0u8; 4 * (n - 2)];
-    let answer = ours::triangulate_ear_clipping(&bytes, &mut indices);
-    assert_eq!(answer.number, 0, "{kind} of {n} corners is cut");
-    let triangles = indices.clone();
-    let given: Vec<[u32; 3]> = words(&triangles).chunks_exact(3).map(|c| [c[0], c[1], c[2]]).collect();
-    row(
-        kind,
-        n,
-        "cut",
-        time(|| {
-            black_box(ours::triangulate_ear_clipping(black_box(&bytes), &mut indices));
-        }),
-        time(|| {
-            black_box(parry::triangulate_ear_clipping(black_box(&points)));
-        }),
-    );
-    row(
-        kind,
-        n,
-        "merge",
-        time(|| {
-            black_box(ours::hertel_mehlhorn_idx(black_box(&bytes), black_box(&triangles), &mut indices, &mut lengths));
-        }),
-        time(|| {
-            black_box(parry::hertel_mehlhorn_idx(black_box(&points), black_box(&given)));
-        }),
-    );
-    let asked: Vec<(f32, f32)> = (0..16).map(|i| ((i * 61 % 997) as f32 - 498.0, (i * 113 % 991) as f32 - 495.0)).collect();
-    row(
-        kind,
-        n,
-        "point test, 16 points",
-        time(|| asked.iter().for_each(|&(x, y)| {
-            black_box(ours::point_in_poly2d(x, y, black_box(&bytes)));
-        })),
-        time(|| asked.iter().for_each(|&(x, y)| {
-            black_box(parry::point_in_poly2d(Vector { x, y }, black_box(&points)));
-        })),
-    );
+/// CGAL's two partitions, where it is linked: their columns.
+#[cfg(feature = "cgal")]
+mod partitions {
+    use super::{black_box, time};
+    use oracle::cgal::Polygon;
+
+    pub const HEADINGS: &str = " CGAL by Hertel and Mehlhorn, µs | CGAL by Greene, µs | ours / Greene | areas: ours, by Hertel and Mehlhorn, by Greene |";
+    pub const RULES: &str = "---:|---:|---:|---|";
+    pub const NONE: &str = " | | | |";
+
+    /// A number of areas, with a mark where CGAL's own check does not take them for a convex partition.
+    fn marked(areas: usize, valid: bool) -> String {
+        format!("{areas}{}", if valid { "" } else { " (invalid)" })
+    }
+
+    /// The cells beside our time for the same outline and our number of areas.
+    pub fn cells(floats: &[f32], ours: f64, areas: u32) -> String {
+        let outline = Polygon::new(floats);
+        let by_hertel = marked(outline.approx_convex_partition_2(), outline.approx_convex_is_valid());
+        let by_greene = marked(outline.greene_approx_convex_partition_2(), outline.greene_approx_convex_is_valid());
+        let hertel = time(|| {
+            black_box(black_box(&outline).approx_convex_partition_2());
+        });
+        let greene = time(|| {
+            black_box(black_box(&outline).greene_approx_convex_partition_2());
+        });
+        format!(" {:.2} | {:.2} | {:.2} | {areas}, {by_hertel}, {by_greene} |", hertel / 1000.0, greene / 1000.0, ours / greene)
+    }
+}
+
+#[cfg(not(feature = "cgal"))]
+mod partitions {
+    pub const HEADINGS: &str = "";
+    pub const RULES: &str = "";
+    pub const NONE: &str = "";
+
+    pub fn cells(_: &[f32], _: f64, _: u32) -> String {
+        String::new()
+    }
+}
+
+/// An outline in the forms in which both sides take it, with its triangles and room for what comes back.
+struct Case<'a> {
+    kind: &'a str,
+    n: usize,
+    floats: Vec<f32>,
+    bytes: Vec<u8>,
+    points: Vec<Vector>,
+    triangles: Vec<u8>,
+    indices: Vec<u8>,
+    lengths: Vec<u8>,
+}
+
+impl<'a> Case<'a> {
+    fn new(kind: &'a str, outline: &[(i32, i32)]) -> Case<'a> {
+        let n = outline.len();
+        let floats = coords(outline);
+        let bytes = bytes_of_floats(&floats);
+        let points = floats.chunks_exact(2).map(|c| Vector { x: c[0], y: c[1] }).collect();
+        let mut triangles = vec![0u8; 12 * (n - 2)];
+        let answer = ours::triangulate_ear_clipping(&bytes, &mut triangles);
+        assert_eq!(answer.number, 0, "{kind} of {n} corners is cut");
+        Case { kind, n, floats, bytes, points, triangles, indices: vec![0; 12 * (n - 2)], lengths: vec![0; 4 * (n - 2)] }
+    }
+
+    fn row(&self, job: &str, ours: f64, theirs: f64) {
+        row(self.kind, self.n, job, ours, theirs, partitions::NONE);
+    }
+
+    fn cut(&mut self) {
+        let ours = time(|| {
+            black_box(ours::triangulate_ear_clipping(black_box(&self.bytes), &mut self.indices));
+        });
+        let theirs = time(|| {
+            black_box(parry::triangulate_ear_clipping(black_box(&self.points)));
+        });
+        self.row("cut", ours, theirs);
+    }
+
+    fn merge(&mut self) {
+        let given: Vec<[u32; 3]> = words(&self.triangles).chunks_exact(3).map(|c| [c[0], c[1], c[2]]).collect();
+        let ours = time(|| {
+            black_box(ours::hertel_mehlhorn_idx(black_box(&self.bytes), black_box(&self.triangles), &mut self.indices, &mut self.lengths));
+        });
+        let theirs = time(|| {
+            black_box(parry::hertel_mehlhorn_idx(black_box(&self.points), black_box(&given)));
+        });
+        self.row("merge", ours, theirs);
+    }
+
+    /// From the outline to its areas, beside CGAL's partitions of it.
+    fn cut_and_merge(&mut self) {
+        let areas = ours::hertel_mehlhorn_idx(&self.bytes, &self.triangles, &mut self.indices, &mut self.lengths).count;
+        let ours = time(|| {
+            black_box(ours::triangulate_ear_clipping(black_box(&self.bytes), &mut self.triangles));
+            black_box(ours::hertel_mehlhorn_idx(&self.bytes, &self.triangles, &mut self.indices, &mut self.lengths));
+        });
+        let theirs = time(|| {
+            let triangles = parry::triangulate_ear_clipping(black_box(&self.points)).expect("the outline is cut");
+            black_box(parry::hertel_mehlhorn_idx(&self.points, &triangles));
+        });
+        row(self.kind, self.n, "cut and merge", ours, theirs, &partitions::cells(&self.floats, ours, areas));
+    }
+
+    fn point_test(&self) {
+        let asked: Vec<(f32, f32)> = (0..16).map(|i| ((i * 61 % 997) as f32 - 498.0, (i * 113 % 991) as f32 - 495.0)).collect();
+        let ours = time(|| asked.iter().for_each(|&(x, y)| {
+            black_box(ours::point_in_poly2d(x, y, black_box(&self.bytes)));
+        }));
+        let theirs = time(|| asked.iter().for_each(|&(x, y)| {
+            black_box(parry::point_in_poly2d(Vector { x, y }, black_box(&self.points)));
+        }));
+        self.row("point test, 16 points", ours, theirs);
+    }
 }
 
 /// A line read, cut, merged and written. Beside it the crate's cut and merge with Rust's own parsing and formatting, of a line that is taken
@@ -95,6 +165,7 @@ fn measure_line(kind: &str, n: usize, outline: &[(i32, i32)]) {
         time(|| {
             black_box(crate_fill(black_box(&line)));
         }),
+        partitions::NONE,
     );
 }
 
@@ -125,16 +196,23 @@ fn measure_roots() {
     println!("A million roots, each of a radicand that the one before it gives: ours {:.1} ms, the machine's own {:.1} ms.", ours.1, machine.1);
 }
 
+fn measure(kind: &str, outline: &[(i32, i32)]) {
+    let mut case = Case::new(kind, outline);
+    case.cut();
+    case.merge();
+    case.cut_and_merge();
+    case.point_test();
+    if [64, 512].contains(&case.n) {
+        measure_line(kind, case.n, outline);
+    }
+}
+
 fn main() {
-    println!("| outline | corners | job | ours, µs | the crate, µs | ours / the crate |");
-    println!("|---|---:|---|---:|---:|---:|");
-    for (kind, shape) in KINDS {
+    println!("| outline | corners | job | ours, µs | the crate, µs | ours / the crate |{}", partitions::HEADINGS);
+    println!("|---|---:|---|---:|---:|---:|{}", partitions::RULES);
+    for (kind, shape) in KINDS.into_iter().chain([("round", round as fn(usize) -> Outline)]) {
         for n in [16, 64, 256, 512] {
-            let outline = shape(n);
-            measure(kind, n, &outline);
-            if [64, 512].contains(&n) {
-                measure_line(kind, n, &outline);
-            }
+            measure(kind, &shape(n));
         }
     }
     println!();
