@@ -18,7 +18,7 @@ use Rattle.algebra.proofs.Rings.{Rotated, each-rotated, total-rotated, begun-ro
 
 -- ---- what the searches find
 
-first-some : {A B : Type 0} {Q : A → Type 0} (f : A → Option B) {l : List A} (b : B) → Each Q l → first f l ≡ some b → (a : A) × Q a × (f a ≡ some b)
+pub first-some : {A B : Type 0} {Q : A → Type 0} (f : A → Option B) {l : List A} (b : B) → Each Q l → first f l ≡ some b → (a : A) × Q a × (f a ≡ some b)
 unfolding first
 first-some f b end h = impossible (cc)
 first-some {A} {B} {Q} f b (_&_ {a} {l} q qs) h = go (first-some f b qs) (f a) refl
@@ -27,7 +27,7 @@ first-some {A} {B} {Q} f b (_&_ {a} {l} q qs) h = go (first-some f b qs) (f a) r
     go rec none e = rec (cc)
     go rec (some c) e = (a, q, cc)
 
-follows-some : (e s : ℕ) (t rest : List ℕ) → follows e s t ≡ some rest → t ≡ e ∷ s ∷ rest
+pub follows-some : (e s : ℕ) (t rest : List ℕ) → follows e s t ≡ some rest → t ≡ e ∷ s ∷ rest
 unfolding follows
 follows-some e s [] rest h = impossible (cc)
 follows-some e s (a ∷ []) rest h = impossible (cc)
@@ -45,12 +45,12 @@ pub record Picked (b : List ℕ) (l m : List (List ℕ)) : Type 0 where
   pub now : m ≡ front ++ lastFirst back
 
 -- m's piece follows e, s in a piece of l
-record Mated (e s : ℕ) (l : List (List ℕ)) (m : Part) : Type 0 where
-  mated : List ℕ
-  rotated : Rotated mated (e ∷ s ∷ m .piece)
-  picked : Picked mated l (m .others)
+pub record Mated (e s : ℕ) (l : List (List ℕ)) (m : Part) : Type 0 where
+  pub mated : List ℕ
+  pub rotated : Rotated mated (e ∷ s ∷ m .piece)
+  pub picked : Picked mated l (m .others)
 
-mated-in : (e s : ℕ) (passed l : List (List ℕ)) (m : Part) → mate e s passed l ≡ some m → Mated e s (passed ++ l) m
+pub mated-in : (e s : ℕ) (passed l : List (List ℕ)) (m : Part) → mate e s passed l ≡ some m → Mated e s (passed ++ l) m
 unfolding mate
 mated-in e s passed [] m h = impossible (cc)
 mated-in e s passed (b ∷ more) m h = go (mated-in e s (passed ++ b ∷ []) more m) (first (follows e s) (rotations b)) refl
