@@ -161,6 +161,6 @@ first-map f a (b ∷ l) = refl
 pub may-corners :
     (may : JoinTest) (corner : ℕ → ℕ) (n e : ℕ) (more : List ℕ) (t : ℕ)
     → mayMeet may (corner n) (corner e) (map corner more) (t ∷ [])
-      ≡ may (record { before = corner (lastOf e more); at = corner n; after = t }) (record { before = t; at = corner e; after = corner (firstOf n more) })
+    ≡ may (record { before = corner (lastOf e more); at = corner n; after = t }) (record { before = t; at = corner e; after = corner (firstOf n more) })
 may-corners may corner n e more t =
     ap₂ (λ (a : ℕ) (b : ℕ). may (record { before = a; at = corner n; after = t }) (record { before = t; at = corner e; after = b })) (last-map corner e more) (first-map corner n more)

@@ -94,6 +94,12 @@ module _ (e s : ℕ) (later : List (List ℕ)) (b : Part) (triangles : Each Tria
   pub triangles-left : Each Triangle (b .others)
   triangles-left = picked-each (mated .picked) triangles
 
+-- what holds of every corner of the later pieces, holds of the mate's and of those that are left
+pub mate-each : {P : ℕ → Type 0} (e s : ℕ) (later : List (List ℕ)) (b : Part) → mate e s [] later ≡ some b → Each (Each P) later → Each P (b .piece) × Each (Each P) (b .others)
+mate-each e s later b m h =
+    let r = mated-in e s [] later b m in
+    (each-tail (each-tail (each-rotated (r .rotated) (picked-one (r .picked) h))), picked-each (r .picked) h)
+
 -- ---- the list that `swap_remove` leaves
 
 pub last-first : (l : List (List ℕ)) (c : List ℕ) → lastFirst (l ++ c ∷ []) ≡ c ∷ l

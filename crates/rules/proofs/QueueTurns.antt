@@ -8,7 +8,7 @@ use mathlib.Core.Option.{none, some}
 use lib.ListN.{length, length-set, getD, set}
 use Rattle.rules.specs.Merge.{JoinTest, mate, merge}
 use Rattle.rules.specs.MergeQueue.{ringAt, jointAtStart, jointAtEnd, window}
-use Rattle.rules.proofs.QueueArrays.{State, state-short, state-lone, state-refused, state-joined, merge-joined}
+use Rattle.rules.proofs.QueueArrays.{State, in-range, state-short, state-lone, state-refused, state-joined, merge-joined}
 use Rattle.rules.proofs.QueueWindow.{length-window, window-put}
 
 module _
@@ -20,6 +20,10 @@ module _
 
   more : count < length (n ∷ window store (suc h) live)
   more = omega (arith, low, length-window store (suc h) live)
+
+  -- the places that a look reads
+  pub turn-range : (n < len) × (e < len) × (getD pred n 0 < len) × (getD succ e 0 < len)
+  turn-range = let r = in-range here more e is-e in (r .at-s, r .at-e, r .at-before, r .at-after)
 
   pub turn-lone : mate (getD vert e 0) (getD vert n 0) [] later ≡ none → State may later vert succ pred start len (window store (suc h) live) count
   turn-lone m = state-lone here more e is-e m
