@@ -3,21 +3,21 @@ use Prim.Native.Nat.{ℕ, zero, suc, _+_, _-_, _*_, _%_, _≤_, _<_}
 use native.Mathlib.Omega.{arith}
 use native.Mathlib.Decide.{ℕ-discrete}
 use native.Mathlib.Numerals.{add-one}
-use mathlib.Core.Path.{_≡_, refl, sym, _∙_, ap, ap₂, subst, subst₂}
+use mathlib.Core.Path.{_≡_, sym, _∙_, ap, ap₂, subst, subst₂}
 use mathlib.Core.List.{List, [], _∷_}
 use lib.ListN.{length, getD, set, length-set}
 use lib.Seq.{getD-set-same, getD-set-other}
 use Rattle.algebra.specs.Lists.{Each, end, _&_}
 use Rattle.algebra.proofs.Lists.{each-head, each-tail, each-imp}
 use Rattle.rules.specs.Merge.{JoinTest, merge}
-use Rattle.rules.specs.MergeQueue.{placesFrom, ringAt, window}
+use Rattle.rules.specs.MergeQueue.{ringAt, window}
 use Rattle.rules.proofs.QueueArrays.{State, state-begins, state-ends, state-short, length-from}
 use Rattle.rules.proofs.QueueWindow.{length-window}
 use Rattle.rules.proofs.QueueMates.{mate-each}
 use Rattle.rules.proofs.QueueTurns.{turn-range, turn-lone, turn-refused, turn-joined, turn-merge}
 use Rattle.pieces.specs.Pieces.{pieceAt, later, moved, shows, Low, Lie}
 use Rattle.pieces.proofs.Later.{later-first, low, lie-moved}
-use Rattle.joins.specs.Ring.{Sized, Three, Begun}
+use Rattle.joins.specs.Ring.{Sized, Begun}
 use Rattle.joins.specs.Looks.{Placed, Readable, Looked}
 use Rattle.joins.specs.Growing.{Finished}
 use Rattle.joins.specs.declared.looks.Look.{Look}

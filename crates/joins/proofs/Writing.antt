@@ -4,10 +4,10 @@ use native.Mathlib.Omega.{arith}
 use native.Mathlib.Numerals.{add-one}
 use native.Mathlib.Nat.{sub-zero}
 use mathlib.Core.Path.{_≡_, refl, sym, _∙_, ap, subst}
-use mathlib.Core.List.{List, [], _∷_, _++_, append-assoc, append-nil}
+use mathlib.Core.List.{List, [], _∷_, _++_, append-nil}
 use lib.ListN.{length, getD, set, drop, length-append, length-drop}
 use lib.Seq.{drop-cons, set-at, append-snoc}
-use Rattle.algebra.specs.Lists.{Each, end, _&_}
+use Rattle.algebra.specs.Lists.{Each}
 use Rattle.algebra.proofs.Lists.{each-head, each-tail}
 use Rattle.rules.specs.Layout.{over}
 use Rattle.rules.specs.MergeQueue.{placesFrom, ringAt}

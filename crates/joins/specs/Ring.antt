@@ -1,7 +1,7 @@
 -- A's arrays: the corner at each place, the next place and the one before, and the queue of places.
 use Prim.Native.Nat.{ℕ, _+_, _*_}
 use mathlib.Core.Path.{_≡_}
-use mathlib.Core.List.{List, [], _∷_}
+use mathlib.Core.List.{List}
 use lib.ListN.{length, getD}
 use Rattle.pieces.specs.Pieces.{startOf}
 

@@ -2,7 +2,7 @@
 use Prim.Native.Nat.{ℕ, zero, suc, _+_, _-_, _*_, _/_, _%_, _^_, _≤_, _<_}
 use native.Mathlib.Omega.{arith}
 use native.Mathlib.Nat.{pow-suc, mod-eq-of-lt, one-mul, zero-div}
-use mathlib.Core.Path.{_≡_, refl, sym, _∙_, ap, subst}
+use mathlib.Core.Path.{_≡_, refl, sym, _∙_, ap}
 use lib.Bits.{bitOr, bitAnd, or-step, and-step, or-shr, and-shr}
 use lib.Count.{trailingZeros, under}
 use lib.Pow.{shl-shr, shr-shr, pow-lt}
@@ -28,7 +28,7 @@ one-shifted g h = ap (λ (x : ℕ). x % 2 ^ 64) (one-mul (2 ^ g)) ∙ mod-eq-of-
 
 -- ---- a word shifted down
 
-pub shifted-digit : (word g i : ℕ) → digit (word / 2 ^ g) i ≡ digit word (g + i)
+shifted-digit : (word g i : ℕ) → digit (word / 2 ^ g) i ≡ digit word (g + i)
 shifted-digit word g i = ap (λ (x : ℕ). x % 2) (shr-shr word g i)
 
 no-digit : (i : ℕ) → digit 0 i ≡ 0
@@ -45,7 +45,7 @@ none-left word g i e h =
 
 -- ---- the digits below the lowest that is set
 
-pub trailing-digit : (k word i : ℕ) → i < trailingZeros k word → digit word i ≡ 0
+trailing-digit : (k word i : ℕ) → i < trailingZeros k word → digit word i ≡ 0
 unfolding trailingZeros
 trailing-digit zero word i h = absurd (omega arith)
 trailing-digit (suc k) word i h = go (word % 2) refl i h (trailing-digit k (word / 2))

@@ -1,5 +1,5 @@
 -- The later pieces in their store: a piece written, the pieces as a list, and the list that is left where the last moves into another's place.
-use Prim.Native.Nat.{ℕ, zero, suc, _+_, _-_, _*_, _/_, _%_, _^_, _≤_, _<_}
+use Prim.Native.Nat.{ℕ, zero, suc, _+_, _-_, _*_, _/_, _^_, _≤_, _<_}
 use native.Mathlib.Omega.{arith}
 use native.Mathlib.Numerals.{add-one}
 use mathlib.Core.Path.{_≡_, refl, sym, _∙_, ap, ap₂, subst}
@@ -12,8 +12,7 @@ use lib.ListN.{length, getD, set, take, length-set, length-take}
 use lib.Seq.{getD-set-same, getD-set-other, getD-take, ext-getD}
 use Rattle.algebra.specs.Lists.{Each, end, _&_}
 use Rattle.algebra.proofs.Lists.{each-imp}
-use Rattle.rules.specs.Layout.{triples}
-use Rattle.pieces.specs.Pieces.{edgeOf, startOf, endOf, pieceAt, piecesFrom, later, putPiece, moved, digit, Shown, show, shows, Piece, Low, Lie}
+use Rattle.pieces.specs.Pieces.{startOf, endOf, pieceAt, piecesFrom, later, putPiece, moved, Shown, show, shows, Piece, Low, Lie}
 use Rattle.pieces.proofs.Digits.{or-digit-l, or-digit-r, one-digit}
 
 -- ---- as a list
@@ -50,11 +49,11 @@ module _ (edges : List ℕ) (k x y z : ℕ) where
   abbrev with-y : List ℕ
   with-y = set with-x (3 * k + 1) y
 
-  pub length-put : length (putPiece edges k x y z) ≡ length edges
+  length-put : length (putPiece edges k x y z) ≡ length edges
   unfolding putPiece
   length-put = simp length-set
 
-  pub put-other : (m : ℕ) → m ≢ 3 * k → m ≢ 3 * k + 1 → m ≢ 3 * k + 2 → getD (putPiece edges k x y z) m 0 ≡ getD edges m 0
+  put-other : (m : ℕ) → m ≢ 3 * k → m ≢ 3 * k + 1 → m ≢ 3 * k + 2 → getD (putPiece edges k x y z) m 0 ≡ getD edges m 0
   unfolding putPiece
   put-other m p q r = getD-set-other with-y (3 * k + 2) m z 0 r ∙ getD-set-other with-x (3 * k + 1) m y 0 q ∙ getD-set-other edges (3 * k) m x 0 p
 
@@ -62,25 +61,25 @@ module _ (edges : List ℕ) (k x y z : ℕ) where
     apart : (d : ℕ) → d < 3 → 3 * j + i ≢ 3 * k + d
     apart d l q = h (omega arith)
 
-    pub other-at : getD (putPiece edges k x y z) (3 * j + i) 0 ≡ getD edges (3 * j + i) 0
+    other-at : getD (putPiece edges k x y z) (3 * j + i) 0 ≡ getD edges (3 * j + i) 0
     other-at = put-other (3 * j + i) (λ q. apart 0 (omega arith) (omega (arith, q))) (apart 1 (omega arith)) (apart 2 (omega arith))
 
-  pub other-first : (j : ℕ) → j ≢ k → getD (putPiece edges k x y z) (3 * j) 0 ≡ getD edges (3 * j) 0
+  other-first : (j : ℕ) → j ≢ k → getD (putPiece edges k x y z) (3 * j) 0 ≡ getD edges (3 * j) 0
   other-first j h = let e : 3 * j + 0 ≡ 3 * j = omega arith in rw e at (other-at j 0 h (omega arith))
 
   pub other-piece : (j : ℕ) → j ≢ k → pieceAt (putPiece edges k x y z) j ≡ pieceAt edges j
   other-piece j h = three (ap startOf (other-first j h)) (ap startOf (other-at j 1 h (omega arith))) (ap startOf (other-at j 2 h (omega arith)))
 
   module _ (room : 3 * k + 2 < length edges) where
-    pub put-first : getD (putPiece edges k x y z) (3 * k) 0 ≡ x
+    put-first : getD (putPiece edges k x y z) (3 * k) 0 ≡ x
     unfolding putPiece
     put-first = getD-set-other with-y (3 * k + 2) (3 * k) z 0 (λ q. omega arith) ∙ getD-set-other with-x (3 * k + 1) (3 * k) y 0 (λ q. omega arith) ∙ getD-set-same edges (3 * k) x 0 (omega arith)
 
-    pub put-second : getD (putPiece edges k x y z) (3 * k + 1) 0 ≡ y
+    put-second : getD (putPiece edges k x y z) (3 * k + 1) 0 ≡ y
     unfolding putPiece
     put-second = getD-set-other with-y (3 * k + 2) (3 * k + 1) z 0 (λ q. omega arith) ∙ getD-set-same with-x (3 * k + 1) y 0 (omega (arith, length-set edges (3 * k) x))
 
-    pub put-third : getD (putPiece edges k x y z) (3 * k + 2) 0 ≡ z
+    put-third : getD (putPiece edges k x y z) (3 * k + 2) 0 ≡ z
     unfolding putPiece
     put-third = getD-set-same with-y (3 * k + 2) z 0 (omega (arith, length-set with-x (3 * k + 1) y, length-set edges (3 * k) x))
 
@@ -111,7 +110,7 @@ module _ (eights : List ℕ) (v k : ℕ) where
         go (no q) = rw (getD-set-other eights v w (bitOr (getD eights v 0) (2 ^ (k / 8))) 0 q) h
 
 module _ (eights : List ℕ) (k x y z : ℕ) where
-  pub length-shows : length (shows eights k x y z) ≡ length eights
+  length-shows : length (shows eights k x y z) ≡ length eights
   length-shows = length-show _ (startOf z) k ∙ length-show _ (startOf y) k ∙ length-show eights (startOf x) k
 
   module _ (fits-x : startOf x < length eights) (fits-y : startOf y < length eights) (fits-z : startOf z < length eights) where
@@ -127,10 +126,10 @@ module _ (eights : List ℕ) (k x y z : ℕ) where
     fits-two : startOf z < length two
     fits-two = omega (arith, length-show eights (startOf x) k, length-show one (startOf y) k)
 
-    pub shows-kept : (j w : ℕ) → Shown eights j w → Shown (shows eights k x y z) j w
+    shows-kept : (j w : ℕ) → Shown eights j w → Shown (shows eights k x y z) j w
     shows-kept j w h = show-kept two (startOf z) k fits-two j w (show-kept one (startOf y) k fits-one j w (show-kept eights (startOf x) k fits-x j w h))
 
-    pub shows-all : Each (Shown (shows eights k x y z) k) (startOf x ∷ startOf y ∷ startOf z ∷ [])
+    shows-all : Each (Shown (shows eights k x y z) k) (startOf x ∷ startOf y ∷ startOf z ∷ [])
     shows-all =
         show-kept two (startOf z) k fits-two k (startOf x) (show-kept one (startOf y) k fits-one k (startOf x) (show-new eights (startOf x) k fits-x))
         & show-kept two (startOf z) k fits-two k (startOf y) (show-new one (startOf y) k fits-one)
@@ -147,7 +146,7 @@ module _ (edges eights : List ℕ) (k x y z : ℕ) (edges-size : length edges �
   fits : (startOf x < length eights) × (startOf y < length eights) × (startOf z < length eights)
   fits = (omega (arith, to-x), omega (arith, to-y), omega (arith, to-z))
 
-  pub piece-put : Piece (putPiece edges k x y z) (shows eights k x y z) k
+  piece-put : Piece (putPiece edges k x y z) (shows eights k x y z) k
   piece-put =
       let r : 3 * k + 2 < length edges = omega arith in
       let a = put-first edges k x y z r in
@@ -160,7 +159,7 @@ module _ (edges eights : List ℕ) (k x y z : ℕ) (edges-size : length edges �
         shown = subst (Each (Shown (shows eights k x y z) k)) (sym (put-piece edges k x y z r)) (shows-all eights k x y z (fits .0) (fits .1) (fits .2));
       }
 
-  pub piece-kept : (j : ℕ) → j ≢ k → Piece edges eights j → Piece (putPiece edges k x y z) (shows eights k x y z) j
+  piece-kept : (j : ℕ) → j ≢ k → Piece edges eights j → Piece (putPiece edges k x y z) (shows eights k x y z) j
   piece-kept j h p =
       let a = other-first edges k x y z j h in
       let b = other-at edges k x y z j 1 h (omega arith) in

@@ -1,14 +1,12 @@
 -- The given triangles, read one by one into the store of pieces.
-use Prim.Native.Nat.{ℕ, zero, suc, _+_, _-_, _*_, _/_, _%_, _≤_, _<_}
+use Prim.Native.Nat.{ℕ, zero, suc, _+_, _-_, _*_, _/_, _%_, _<_}
 use native.Mathlib.Omega.{arith}
 use native.Mathlib.Decide.{ℕ-discrete}
 use native.Mathlib.Nat.{lt-of-not-le}
 use mathlib.Core.Path.{_≡_, refl, sym, _∙_, ap, subst}
-use mathlib.Core.Logic.{_≢_}
 use mathlib.Core.List.{List, [], _∷_}
 use lib.ListN.{length, getD}
 use lib.Seq.{ext-getD}
-use Rattle.algebra.specs.Lists.{Each}
 use Rattle.rules.specs.Layout.{triples}
 use Rattle.pieces.specs.Pieces.{edgeOf, startOf, endOf, pieceAt, later, putPiece, shows, Lie}
 use Rattle.pieces.proofs.Later.{length-from, from-at, three, other-piece, put-piece, lie-put}

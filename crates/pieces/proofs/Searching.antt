@@ -5,17 +5,17 @@ use native.Mathlib.Decide.{ℕ-discrete}
 use mathlib.Core.Path.{_≡_, refl, sym, _∙_, ap, subst}
 use mathlib.Core.Logic.{_≢_}
 use native.Mathlib.Nat.{lt-of-not-le}
-use mathlib.Core.Bool.{Bool, true, false, cond, _&&_}
+use mathlib.Core.Bool.{Bool, true, false, cond}
 use mathlib.Core.List.{List, [], _∷_}
 use mathlib.Core.Option.{none, some}
 use lib.Bits.{bitAnd}
 use lib.Pow.{shr-lt, shr-shr}
 use lib.Count.{trailingZeros}
 use lib.Dec.{eqb}
-use lib.ListN.{length, getD, set, take}
+use lib.ListN.{getD, set, take}
 use Rattle.algebra.specs.Lists.{Each, end, _&_, first}
 use Rattle.algebra.specs.Rings.{rotations}
-use Rattle.algebra.proofs.Equal.{eqb-same, eqb-true, and-true-l, and-true-r, impossible}
+use Rattle.algebra.proofs.Equal.{eqb-same, eqb-true, and-true-l, and-true-r}
 use Rattle.rules.specs.Merge.{follows, mate}
 use Rattle.rules.proofs.Queues.{Apart}
 use Rattle.rules.proofs.QueueMates.{runs, in-triangle, mate-nowhere, mate-at}
@@ -33,7 +33,7 @@ module _ {edges : List ℕ} {want from count : ℕ} where
   pub passed-first : Passed edges want from count (24 * (from / 8))
   passed-first = record { not-at = λ i h l k e. absurd (omega arith) }
 
-  pub passed-less : (n m : ℕ) → Passed edges want from count n → ((i : ℕ) → 3 * from ≤ i → i < 3 * count → i < m → i < n) → Passed edges want from count m
+  passed-less : (n m : ℕ) → Passed edges want from count n → ((i : ℕ) → 3 * from ≤ i → i < 3 * count → i < m → i < n) → Passed edges want from count m
   passed-less n m p f = record { not-at = λ i h l k e. p .not-at i h l (f i h l k) e }
 
   -- up to the first piece of eight g, or up to the first later piece
@@ -41,7 +41,7 @@ module _ {edges : List ℕ} {want from count : ℕ} where
   passed-enter g p = passed-less (24 * g) (3 * max (8 * g) from + 0) p (λ i h l k. omega arith)
 
   -- and up to its last
-  pub passed-leave : (g stop b : ℕ) → Passed edges want from count (24 * g) → Behind edges want count g stop → stop ≤ b → Passed edges want from count (3 * b + 0) → Passed edges want from count (24 * (g + 1))
+  passed-leave : (g stop b : ℕ) → Passed edges want from count (24 * g) → Behind edges want count g stop → stop ≤ b → Passed edges want from count (3 * b + 0) → Passed edges want from count (24 * (g + 1))
   passed-leave g stop b before behind h p = record { not-at = λ i a l k e. go i a l k e (ℕ-discrete (min (24 * g) i) (24 * g)) (ℕ-discrete (min (3 * b) i) (3 * b)) }
     where
       go : (i : ℕ) → 3 * from ≤ i → i < 3 * count → i < 24 * (g + 1) → getD edges i 0 ≡ want → Dec (min (24 * g) i ≡ 24 * g) → Dec (min (3 * b) i ≡ 3 * b) → ⊥
@@ -64,9 +64,6 @@ behind-none edges want count g f = record { not-at = λ i a h l b e. go i a h e 
   where
     go : (i : ℕ) → 24 * g ≤ i → i < 24 * g + 24 → getD edges i 0 ≡ want → ⊥
     go i a h e = let w : 24 * g + (i - 24 * g) ≡ i = omega arith in f (i - 24 * g) (omega arith) (rw w e)
-
-pub behind-all : (edges : List ℕ) (want count g : ℕ) → Behind edges want count g (min (8 * g + 8) count)
-behind-all edges want count g = record { not-at = λ i a h l b e. absurd (omega arith) }
 
 -- from eight g on the search goes on: what is left of the points' words is shifted down to it
 pub record Seeking (edges eights : List ℕ) (from count e s want : ℕ) (found : Mate) (g word : ℕ) : Type 0 where
@@ -113,7 +110,7 @@ module _ (edges eights : List ℕ) (from count e s : ℕ) (lie : Lie edges eight
       let v : i / 3 / 8 ≡ i / 24 = omega arith in
       rw v at (edge-shown (i / 3) (i % 3) (lie .each (i / 3) (omega arith) (omega arith)) (omega arith) (rw w is))
 
-  pub passed-skip : (g : ℕ) → Passed edges (edgeOf e s) from count (24 * g) → Passed edges (edgeOf e s) from count (24 * (g + trailingZeros 64 (both / 2 ^ g)))
+  passed-skip : (g : ℕ) → Passed edges (edgeOf e s) from count (24 * g) → Passed edges (edgeOf e s) from count (24 * (g + trailingZeros 64 (both / 2 ^ g)))
   passed-skip g p = record { not-at = λ i h l k is. go i h l k is (ℕ-discrete (min g (i / 24)) g) }
     where
       go : (i : ℕ) → 3 * from ≤ i → i < 3 * count → i < 24 * (g + trailingZeros 64 (both / 2 ^ g)) → getD edges i 0 ≡ edgeOf e s → Dec (min g (i / 24) ≡ g) → ⊥
@@ -182,7 +179,7 @@ module _ (edges eights : List ℕ) (from count e s : ℕ) (lie : Lie edges eight
       subst (Apart e s) (sym (from-at edges from (count - from) i (omega arith)))
       (piece-apart (from + i) (lie .each (from + i) (omega arith) l) (λ r q. p .not-at (3 * (from + i) + r) (omega arith) (omega arith) (omega arith)))
 
-  pub found-none : (g : ℕ) → both / 2 ^ g ≡ 0 → Passed edges (edgeOf e s) from count (24 * g) → Mated edges from count e s Nobody
+  found-none : (g : ℕ) → both / 2 ^ g ≡ 0 → Passed edges (edgeOf e s) from count (24 * g) → Mated edges from count e s Nobody
   unfolding Mated
   found-none g z p =
       let all : Passed edges (edgeOf e s) from count (3 * count) = record { not-at = λ i h l k. passed-all g z p i h l } in

@@ -22,6 +22,7 @@ pub mod Choosing
 pub mod Stuck
 pub mod Merges
 pub mod Pieces
+pub mod QueueSlots
 pub mod Queues
 pub mod QueueMates
 pub mod QueueSteps

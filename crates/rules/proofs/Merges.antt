@@ -18,7 +18,7 @@ use Rattle.algebra.proofs.Rings.{Rotated, each-rotated, total-rotated, begun-ro
 
 -- ---- what the searches find
 
-pub first-some : {A B : Type 0} {Q : A → Type 0} (f : A → Option B) {l : List A} (b : B) → Each Q l → first f l ≡ some b → (a : A) × Q a × (f a ≡ some b)
+first-some : {A B : Type 0} {Q : A → Type 0} (f : A → Option B) {l : List A} (b : B) → Each Q l → first f l ≡ some b → (a : A) × Q a × (f a ≡ some b)
 unfolding first
 first-some f b end h = impossible (cc)
 first-some {A} {B} {Q} f b (_&_ {a} {l} q qs) h = go (first-some f b qs) (f a) refl
@@ -27,7 +27,7 @@ first-some {A} {B} {Q} f b (_&_ {a} {l} q qs) h = go (first-some f b qs) (f a) r
     go rec none e = rec (cc)
     go rec (some c) e = (a, q, cc)
 
-pub follows-some : (e s : ℕ) (t rest : List ℕ) → follows e s t ≡ some rest → t ≡ e ∷ s ∷ rest
+follows-some : (e s : ℕ) (t rest : List ℕ) → follows e s t ≡ some rest → t ≡ e ∷ s ∷ rest
 unfolding follows
 follows-some e s [] rest h = impossible (cc)
 follows-some e s (a ∷ []) rest h = impossible (cc)

@@ -3,7 +3,7 @@
 use Prim.Native.Nat.{ℕ, zero, suc, _≤_, _<_}
 use native.Mathlib.Omega.{arith}
 use mathlib.Core.Path.{_≡_, refl, sym, _∙_, ap, ap₂, subst, subst₂}
-use mathlib.Core.Bool.{Bool, true, false, not, _||_}
+use mathlib.Core.Bool.{Bool, true, false}
 use mathlib.Core.List.{List, [], _∷_, _++_, map}
 use mathlib.Core.Option.{none, some}
 use lib.ListN.{length, length-append, getD, set}
@@ -13,7 +13,8 @@ use Rattle.algebra.proofs.Lists.{each-front, each-imp}
 use Rattle.algebra.specs.Rings.{steps, lastOf, firstOf}
 use Rattle.algebra.proofs.Rings.{Rotated, rotated-length, steps-last, each-rotated}
 use Rattle.rules.specs.Merge.{mate, JoinTest, merge}
-use Rattle.rules.specs.MergeQueue.{mayMeet, placesFrom, ringAt, jointAtStart, jointAtEnd}
+use Rattle.rules.specs.MergeQueue.{placesFrom, ringAt, jointAtStart, jointAtEnd}
+use Rattle.rules.proofs.QueueSlots.{mayMeet}
 use Rattle.rules.proofs.QueueSteps.{placesOf, Queue, queue-begins, queue-ends, queue-short, Opened, opened, begun-at, lone-step, refused-step, joined-step, joined-merge}
 use Rattle.rules.proofs.QueueLinks.{Numbered, numbered-begins, numbered-joined, Link, Linked, Here, linked-at, linked-joined, may-corners}
 

@@ -1,5 +1,5 @@
 -- A's ring in a program's arrays: its places are numbered as they are made, and each is linked with the next and the one before.
-use Prim.Native.Nat.{ℕ, zero, suc, _<_}
+use Prim.Native.Nat.{ℕ, suc, _<_}
 use native.Mathlib.Omega.{arith}
 use mathlib.Core.Path.{_≡_, refl, sym, _∙_, ap₂, subst}
 use mathlib.Core.Logic.{_≢_}
@@ -12,7 +12,7 @@ use Rattle.algebra.proofs.Counting.{count-within, count-distinct}
 use Rattle.algebra.specs.Rings.{Edge, steps, edges, lastOf, firstOf}
 use Rattle.algebra.proofs.Rings.{Rotated, steps-last, edges-two, edges-rotated, each-rotated, rotated-length}
 use Rattle.rules.specs.Merge.{JoinTest}
-use Rattle.rules.specs.MergeQueue.{mayMeet}
+use Rattle.rules.proofs.QueueSlots.{mayMeet}
 use Rattle.rules.proofs.QueueSteps.{each-both}
 
 -- ---- numbers
@@ -25,7 +25,7 @@ distinct-swap : {A : Type 0} (xs ys : List A) → Distinct (xs ++ ys) → Distin
 distinct-swap [] ys d = rw append-nil d
 distinct-swap (x ∷ xs) ys (new h d) = distinct-insert ys x xs (each-swap xs ys h) (distinct-swap xs ys d)
 
-pub distinct-rotated : {A : Type 0} {l m : List A} → Rotated l m → Distinct l → Distinct m
+distinct-rotated : {A : Type 0} {l m : List A} → Rotated l m → Distinct l → Distinct m
 distinct-rotated t d = rw (t .now) (distinct-swap (t .front) (t .back) (rw (t .was) at d))
 
 -- the places are distinct, and numbered below their count
@@ -85,16 +85,6 @@ module _ {succ pred : List ℕ} where
 
   pub linked-at : {places : List ℕ} {n e : ℕ} {more : List ℕ} → Rotated places (n ∷ e ∷ more) → Linked succ pred places → Here succ pred n e more
   linked-at {n = n} {e = e} {more = more} t h = linked-from n e more (each-rotated (edges-rotated t) h)
-
-  -- a walk along the links meets the places in turn
-  walk-from : (a : ℕ) (l : List ℕ) → Each (Link succ pred) (steps a l) → (i : ℕ) → suc i < length (a ∷ l) → getD succ (getD (a ∷ l) i 0) 0 ≡ getD (a ∷ l) (suc i) 0
-  walk-from a [] h i k = absurd (omega arith)
-  walk-from a (b ∷ l) (h & hs) zero k = h .on
-  walk-from a (b ∷ l) (h & hs) (suc i) k = walk-from b l hs i (omega arith)
-
-  pub linked-walk : (places : List ℕ) → Linked succ pred places → (i : ℕ) → suc i < length places → getD succ (getD places i 0) 0 ≡ getD places (suc i) 0
-  linked-walk [] h i k = absurd (omega arith)
-  linked-walk (a ∷ l) h i k = walk-from a l (each-front (steps a l) (record { from = lastOf a l; to = a } ∷ []) (rw (steps-last a l a) at h)) i k
 
 -- ---- a place t put between n and e
 

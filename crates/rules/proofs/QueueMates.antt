@@ -1,8 +1,7 @@
--- The search for a mate: which pieces it may skip, what it finds in a triangle, and the list of pieces that it leaves.
+-- The search for a mate: the pieces that it has passed, what it finds in a triangle, and the list of pieces that it leaves.
 use Prim.Native.Nat.{ℕ, zero, suc, _-_, _≤_, _<_}
 use native.Mathlib.Omega.{arith}
 use mathlib.Core.Path.{_≡_, refl, sym, _∙_, ap, ap₂, subst}
-use mathlib.Core.Logic.{_≢_}
 use mathlib.Core.Bool.{Bool, true, false, cond, _&&_}
 use mathlib.Core.List.{List, [], _∷_, _++_, append-assoc, append-nil}
 use mathlib.Core.Option.{Option, none, some}
@@ -10,39 +9,23 @@ use lib.Dec.{eqb}
 use lib.ListN.{length, length-append, length-take, getD, set, take, drop, take-append-drop}
 use lib.Seq.{take-length, drop-cons, take-append-seam, drop-append-seam, set-append-seam, take-at, getD-at}
 use Rattle.algebra.specs.Lists.{Each, end, _&_, first, orElse}
-use Rattle.algebra.proofs.Lists.{each-head, each-tail}
+use Rattle.algebra.proofs.Lists.{each-tail}
 use Rattle.algebra.specs.Rings.{rotations, rotationsFrom}
-use Rattle.algebra.proofs.Rings.{rotations-are, each-rotated, rotated-length}
+use Rattle.algebra.proofs.Rings.{each-rotated}
 use Rattle.rules.specs.Merge.{follows, Part, with, lastFirst, mate}
-use Rattle.rules.proofs.Merges.{first-some, follows-some, Picked, Mated, mated-in}
+use Rattle.rules.proofs.Merges.{Picked, mated-in}
 use Rattle.rules.proofs.Queues.{Apart, mate-none, picked-each}
 
--- ---- pieces that the search may skip
-
-apart-by : {P : ℕ → Type 0} (e s : ℕ) (b : List ℕ) → Each P b → ((rest : List ℕ) → Each P (e ∷ s ∷ rest) → ⊥) → Apart e s b
-apart-by {P} e s b h no-edge = go (first (follows e s) (rotations b)) refl
-  where
-    go : (o : Option (List ℕ)) → first (follows e s) (rotations b) ≡ o → o ≡ none
-    go none i = refl
-    go (some rest) i =
-        let (t, rotated, f) = first-some (follows e s) rest (rotations-are b) i in
-        absurd (no-edge rest (subst (Each P) (follows-some e s t rest f) (each-rotated rotated h)))
-
--- a piece that does not hold both ends of the edge
-pub without-end : (e s : ℕ) (b : List ℕ) → Each (λ c. c ≢ e) b → Apart e s b
-without-end e s b h = apart-by e s b h (λ rest k. each-head k refl)
-
-pub without-start : (e s : ℕ) (b : List ℕ) → Each (λ c. c ≢ s) b → Apart e s b
-without-start e s b h = apart-by e s b h (λ rest k. each-head (each-tail k) refl)
+-- ---- pieces that the search has passed
 
 module _ (e s : ℕ) where
-  pub mate-skip : (passed front back : List (List ℕ)) → Each (Apart e s) front → mate e s passed (front ++ back) ≡ mate e s (passed ++ front) back
+  mate-skip : (passed front back : List (List ℕ)) → Each (Apart e s) front → mate e s passed (front ++ back) ≡ mate e s (passed ++ front) back
   unfolding mate
   mate-skip passed [] back h = rw append-nil
   mate-skip passed (b ∷ front) back (h & hs) = rw (h, mate) (mate-skip (passed ++ b ∷ []) front back hs ∙ ap (λ (l : List (List ℕ)). mate e s l back) (append-assoc passed (b ∷ []) front))
 
   -- the first later piece with the edge
-  pub mate-found :
+  mate-found :
       (front : List (List ℕ)) (b : List ℕ) (back : List (List ℕ)) (rest : List ℕ) → Each (Apart e s) front → first (follows e s) (rotations b) ≡ some rest
       → mate e s [] (front ++ b ∷ back) ≡ some (record { piece = rest; others = front ++ lastFirst back })
   unfolding mate
@@ -68,31 +51,12 @@ module _ (e s : ℕ) where
       either (runs x y) (z ∷ []) _
       ∙ ap (cond (runs x y) (some (z ∷ []))) (either (runs y z) (x ∷ []) _ ∙ ap (cond (runs y z) (some (x ∷ []))) (either (runs z x) (y ∷ []) none))
 
-abbrev pub Triangle : List ℕ → Type 0
-Triangle b = length b ≡ 3
-
-one-corner : (l : List ℕ) → length l ≡ 1 → (t : ℕ) × (l ≡ t ∷ [])
-one-corner [] h = absurd (omega arith)
-one-corner (t ∷ []) h = (t, refl)
-one-corner (t ∷ u ∷ l) h = absurd (omega arith)
-
 picked-one : {P : List ℕ → Type 0} {b : List ℕ} {l m : List (List ℕ)} → Picked b l m → Each P l → P b
 picked-one {P} {b} p h = go (p .front) (subst (Each P) (p .was) h)
   where
     go : (front : List (List ℕ)) → Each P (front ++ b ∷ p .back) → P b
     go [] (h & _) = h
     go (_ ∷ front) (_ & h) = go front h
-
--- the mate among triangles has one corner besides the edge, and triangles are left
-module _ (e s : ℕ) (later : List (List ℕ)) (b : Part) (triangles : Each Triangle later) (m : mate e s [] later ≡ some b) where
-  mated : Mated e s later b
-  mated = mated-in e s [] later b m
-
-  pub third : (t : ℕ) × (b .piece ≡ t ∷ [])
-  third = let h : Triangle (mated .mated) = picked-one (mated .picked) triangles in one-corner (b .piece) (omega (arith, rotated-length (mated .rotated)))
-
-  pub triangles-left : Each Triangle (b .others)
-  triangles-left = picked-each (mated .picked) triangles
 
 -- what holds of every corner of the later pieces, holds of the mate's and of those that are left
 pub mate-each : {P : ℕ → Type 0} (e s : ℕ) (later : List (List ℕ)) (b : Part) → mate e s [] later ≡ some b → Each (Each P) later → Each P (b .piece) × Each (Each P) (b .others)
@@ -102,7 +66,7 @@ mate-each e s later b m h =
 
 -- ---- the list that `swap_remove` leaves
 
-pub last-first : (l : List (List ℕ)) (c : List ℕ) → lastFirst (l ++ c ∷ []) ≡ c ∷ l
+last-first : (l : List (List ℕ)) (c : List ℕ) → lastFirst (l ++ c ∷ []) ≡ c ∷ l
 last-first l c =
     let n : length (l ++ c ∷ []) - 1 ≡ length l = rw (length-append l (c ∷ [])) (omega arith) in
     rw (n, drop-append-seam l (c ∷ []), take-append-seam l (c ∷ []))
@@ -120,7 +84,7 @@ ends-of {A} (a ∷ l) = go (ends-of l)
     go (ends m c) = ends (a ∷ m) c
 
 -- the last piece is written over b, and the list is one shorter
-pub swap-removed :
+swap-removed :
     (front : List (List ℕ)) (b : List ℕ) (back : List (List ℕ)) (n : ℕ) → suc n ≡ length (front ++ b ∷ back)
     → front ++ lastFirst back ≡ take n (set (front ++ b ∷ back) (length front) (getD (front ++ b ∷ back) n []))
 swap-removed front b back n h = go (ends-of back) h

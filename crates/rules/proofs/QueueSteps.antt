@@ -12,7 +12,7 @@ use Rattle.algebra.proofs.Lists.{each-++, each-front, each-back, each-swap, eac
 use Rattle.algebra.proofs.Equal.{impossible}
 use Rattle.algebra.proofs.Rings.{Rotated}
 use Rattle.rules.specs.Merge.{Part, mate, JoinTest, nextJoin, merge}
-use Rattle.rules.specs.MergeQueue.{mayMeet, Slot, cornersOf, fresh, out, refused, joins, judged, look, lookAt, queued}
+use Rattle.rules.proofs.QueueSlots.{mayMeet, Slot, cornersOf, fresh, out, refused, joins, judged, look, lookAt, queued}
 use Rattle.rules.proofs.Merges.{mated-in, merge-next, merge-join}
 use Rattle.rules.proofs.Queues.{Stands, begins, lone-stands, refused-stands, joined-next, joined-stands, stands-end}
 use Rattle.rules.proofs.QueueMates.{picked-length}
@@ -203,7 +203,7 @@ module _ {may : JoinTest} {later : List (List ℕ)} {corner : ℕ → ℕ} {plac
     abbrev C : List Slot
     C = o .coming
 
-    pub places-two : places ≡ placesOf P ++ n ∷ placesOf C
+    places-two : places ≡ placesOf P ++ n ∷ placesOf C
     places-two = o .places-are ∙ map-append (λ (x : Slot). x .at) P (o .slot ∷ C) ∙ ap (λ (m : ℕ). placesOf P ++ m ∷ placesOf C) (o .number)
 
     -- A begun at n: the place behind it is e

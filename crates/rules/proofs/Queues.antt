@@ -1,5 +1,5 @@
--- The merger's steps with a queue give the merge's pieces.
-use Prim.Native.Nat.{ℕ, zero, suc, _-_}
+-- A's places with their queue: where the search stands, one law for each thing that a look may find, and that the search finds A's next join.
+use Prim.Native.Nat.{ℕ, suc, _-_}
 use mathlib.Core.Path.{_≡_, refl, sym, _∙_, ap, subst}
 use mathlib.Core.Bool.{Bool, true, false, cond}
 use mathlib.Core.List.{List, [], _∷_, _++_, map-append, append-assoc, append-nil}
@@ -10,8 +10,8 @@ use Rattle.algebra.proofs.Lists.{each-++, each-front, each-back, each-tail, eac
 use Rattle.algebra.proofs.Equal.{impossible}
 use Rattle.algebra.specs.Rings.{Edge, steps, edges, rotations, rotationsFrom}
 use Rattle.algebra.proofs.Rings.{edges-two, edges-rotated, each-rotated, begun-rotated, swapped}
-use Rattle.rules.specs.Merge.{follows, Part, with, mate, JoinTest, joinWith, join, nextJoin, goOn, mergeFrom, merge}
-use Rattle.rules.specs.MergeQueue.{mayMeet, Slot, cornersOf, fresh, out, Look, lone, refused, joins, judged, look, lookAt, kept, Joined, grown, joinedAt, search, queueOn, queueFrom, mergeQueue}
+use Rattle.rules.specs.Merge.{follows, Part, with, mate, JoinTest, joinWith, join, nextJoin}
+use Rattle.rules.proofs.QueueSlots.{mayMeet, Slot, cornersOf, fresh, out, lone, refused, joins, judged, look, lookAt, grown}
 use Rattle.rules.proofs.Merges.{Picked, mated-in}
 
 -- ---- no mate among pieces stays so when pieces vanish
@@ -25,7 +25,7 @@ unfolding mate
 mate-none e s passed [] h = refl
 mate-none e s passed (b ∷ more) (h & hs) = rw (h, mate) (mate-none e s (passed ++ b ∷ []) more hs)
 
-pub none-apart : (e s : ℕ) (passed later : List (List ℕ)) → mate e s passed later ≡ none → Each (Apart e s) later
+none-apart : (e s : ℕ) (passed later : List (List ℕ)) → mate e s passed later ≡ none → Each (Apart e s) later
 unfolding mate
 none-apart e s passed [] h = end
 none-apart e s passed (b ∷ more) h = go (none-apart e s (passed ++ b ∷ []) more) (first (follows e s) (rotations b)) refl
@@ -39,12 +39,12 @@ picked-each {b} p h =
     let parts = rw (p .was) at h in
     rw (p .now) (each-++ (each-front (p .front) (b ∷ p .back) parts) (each-rotated (begun-rotated (p .back) (length (p .back) - 1)) (each-tail (each-back (p .front) (b ∷ p .back) parts))))
 
-pub none-still : {b : List ℕ} {l m : List (List ℕ)} (e s : ℕ) → Picked b l m → mate e s [] l ≡ none → mate e s [] m ≡ none
+none-still : {b : List ℕ} {l m : List (List ℕ)} (e s : ℕ) → Picked b l m → mate e s [] l ≡ none → mate e s [] m ≡ none
 none-still {b} {l} {m} e s p h = mate-none e s [] m (picked-each p (none-apart e s [] l h))
 
 -- ---- slots
 
-pub corners-fresh : (n : ℕ) (l : List ℕ) → cornersOf (fresh n l) ≡ l
+corners-fresh : (n : ℕ) (l : List ℕ) → cornersOf (fresh n l) ≡ l
 corners-fresh n [] = refl
 corners-fresh n (c ∷ l) = ap (λ (z : List ℕ). c ∷ z) (corners-fresh (suc n) l)
 
@@ -65,7 +65,7 @@ module _ (later : List (List ℕ)) where
   known-fresh p n [] e l = known-live p e l & end
   known-fresh p n (c ∷ cs) e l = known-live p _ l & known-fresh _ (suc n) cs e refl
 
-  pub known-new : (n : ℕ) (l : List ℕ) → Each (Known later) (edges (fresh n l))
+  known-new : (n : ℕ) (l : List ℕ) → Each (Known later) (edges (fresh n l))
   known-new n [] = end
   known-new n (c ∷ l) = known-fresh _ (suc n) l _ refl
 
@@ -135,7 +135,7 @@ module _ (may : JoinTest) (later : List (List ℕ)) (p : Slot) where
     pub mates : mate (next .corner) (p .corner) [] later ≡ some b
     pub allowed : mayMeet may (p .corner) (next .corner) (cornersOf more) (b .piece) ≡ true
 
-  pub joins-is : (rest : List Slot) (b : Part) → lookAt may later p rest ≡ joins b → Joins rest b
+  joins-is : (rest : List Slot) (b : Part) → lookAt may later p rest ≡ joins b → Joins rest b
   unfolding lookAt look
   joins-is [] b h = go (p .live) h
     where
@@ -164,12 +164,12 @@ module _ (may : JoinTest) (later : List (List ℕ)) (p : Slot) where
   unfolding join joinWith
   grown-join e more n b m allowed = rw (m, allowed, map-append (λ (x : Slot). x .corner) more (p ∷ fresh n (b .piece)), corners-fresh n (b .piece))
 
-  pub joins-join : (rest : List Slot) (b : Part) → Joins rest b → join may later (p .corner ∷ cornersOf rest) ≡ some (record { piece = cornersOf (grown p rest (b .piece)); others = b .others })
+  joins-join : (rest : List Slot) (b : Part) → Joins rest b → join may later (p .corner ∷ cornersOf rest) ≡ some (record { piece = cornersOf (grown p rest (b .piece)); others = b .others })
   joins-join rest b j =
       subst (λ (l : List Slot). join may later (p .corner ∷ cornersOf l) ≡ some (record { piece = cornersOf (grown p l (b .piece)); others = b .others })) (sym (j .is))
       (grown-join (j .next) (j .more) (suc (length (j .next ∷ j .more))) b (j .mates) (j .allowed))
 
-  pub joins-picked : (rest : List Slot) (b : Part) → Joins rest b → (piece : List ℕ) × Picked piece later (b .others)
+  joins-picked : (rest : List Slot) (b : Part) → Joins rest b → (piece : List ℕ) × Picked piece later (b .others)
   joins-picked rest b j = let m = mated-in (j .next .corner) (p .corner) [] later b (j .mates) in (m .mated, m .picked)
 
   joins-known : (rest : List Slot) (b : Part) → Joins rest b → Each (Known later) (edges (p ∷ rest)) → Each (Known (b .others)) (edges (grown p rest (b .piece)))
@@ -251,43 +251,3 @@ module _ {may : JoinTest} {later : List (List ℕ)} {passed : List Slot} {p : Sl
 
 pub stands-end : {may : JoinTest} {later : List (List ℕ)} {passed : List Slot} → Stands may later passed [] → nextJoin may (cornersOf passed) later ≡ none
 stands-end {may} {later} {passed} at = far-end may later (cornersOf passed) (at .far)
-
--- ---- the search with a queue finds the next join
-
-data Finds (may : JoinTest) : Option Part → Option Joined → Type 0 where
-  neither : Finds may none none
-  both : {r : Joined} → Stands may (r .others) [] (r .ring) → Finds may (some (record { piece = cornersOf (r .ring); others = r .others })) (some r)
-
-corners-on : (passed : List Slot) (q p : Slot) (coming : List Slot) → q .corner ≡ p .corner → cornersOf ((passed ++ q ∷ []) ++ coming) ≡ cornersOf (passed ++ p ∷ coming)
-corners-on [] q p coming e = ap (λ (c : ℕ). c ∷ cornersOf coming) e
-corners-on (x ∷ passed) q p coming e = ap (λ (l : List ℕ). x .corner ∷ l) (corners-on passed q p coming e)
-
-finds : {may : JoinTest} {later : List (List ℕ)} (passed coming : List Slot) → Stands may later passed coming → Finds may (nextJoin may (cornersOf (passed ++ coming)) later) (search may later passed coming)
-unfolding search
-finds {may} {later} passed [] at = rw (append-nil, stands-end at) neither
-finds {may} {later} passed (p ∷ coming) at = go (lookAt may later p (coming ++ passed)) refl (λ q. finds (passed ++ q ∷ []) coming)
-  where
-    go :
-        (l : Look) → lookAt may later p (coming ++ passed) ≡ l
-        → ((q : Slot) → Stands may later (passed ++ q ∷ []) coming → Finds may (nextJoin may (cornersOf ((passed ++ q ∷ []) ++ coming)) later) (search may later (passed ++ q ∷ []) coming))
-        → Finds may (nextJoin may (cornersOf (passed ++ p ∷ coming)) later) (orElse (joinedAt p (coming ++ passed) l) (search may later (passed ++ kept l p ∷ []) coming))
-    go lone h rec = rw (← corners-on passed (out p) p coming refl) (rec (out p) (lone-stands at h))
-    go refused h rec = rw (← corners-on passed p p coming refl) (rec p (refused-stands at h))
-    go (joins b) h rec = rw (joined-next at b h) (both (joined-stands at b h))
-
-queue-from : (k : ℕ) (may : JoinTest) (a : List Slot) (later : List (List ℕ)) → Stands may later [] a → queueFrom k may a later ≡ mergeFrom k may (cornersOf a) later
-unfolding queueFrom mergeFrom
-queue-from zero may a later at = refl
-queue-from (suc k) may a later at = go later (queue-from k may) (finds [] a at)
-  where
-    go :
-        (l : List (List ℕ)) → ((a : List Slot) (l : List (List ℕ)) → Stands may l [] a → queueFrom k may a l ≡ mergeFrom k may (cornersOf a) l)
-        → {o : Option Part} {r : Option Joined} → Finds may o r → queueOn (queueFrom k may) a l r ≡ goOn (mergeFrom k may) (cornersOf a) l o
-    go [] rec neither = refl
-    go (b ∷ more) rec neither = ap (λ (z : List (List ℕ)). cornersOf a ∷ z) (rec (fresh 0 b) more (begins may more b) ∙ ap (λ (z : List ℕ). mergeFrom k may z more) (corners-fresh 0 b))
-    go l rec (both {r} s) = rec (r .ring) (r .others) s
-
-pub queue-same : (may : JoinTest) (pieces : List (List ℕ)) → mergeQueue may pieces ≡ merge may pieces
-unfolding mergeQueue merge
-queue-same may [] = refl
-queue-same may (a ∷ later) = queue-from (length later) may (fresh 0 a) later (begins may later a) ∙ ap (λ (z : List ℕ). mergeFrom (length later) may z later) (corners-fresh 0 a)

@@ -1,5 +1,5 @@
 -- `merge` meets its contract. The invariant: the pieces in front of number a are finished and written, and the merge is what they are and the merge of the later ones.
-use Prim.Native.Nat.{ℕ, _+_, _-_, _≤_, _<_}
+use Prim.Native.Nat.{_+_, _-_, _≤_, _<_}
 use native.Mathlib.Omega.{arith}
 use borrow.Author.Needs.{needs}
 use mathlib.Core.Path.{_≡_}
@@ -13,15 +13,6 @@ use Rattle.joins.specs.Ring.{Sized}
 use Rattle.hertel_mehlhorn.proofs.Merging.{Work, work-first, out-size, lens-size, work-next, fits, work-done}
 use Rattle.hertel_mehlhorn.proofs.merge.Statement.{statement}
 use Rattle.hertel_mehlhorn.proofs.merge.Tie as tie
-use Rattle.hertel_mehlhorn.proofs.merge.Reads as reads
-use Rattle.hertel_mehlhorn.proofs.merge.Lts as lts
-use Rattle.joins.proofs.grow.Reads as grow-reads
-use Rattle.joins.proofs.ring.no_places.Reads as no-places-reads
-use Rattle.joins.proofs.ring.no_queue.Reads as no-queue-reads
-use Rattle.joins.proofs.ring.write_ring.Reads as write-ring-reads
-use Rattle.pieces.proofs.no_edges.Reads as no-edges-reads
-use Rattle.pieces.proofs.no_eights.Reads as no-eights-reads
-use Rattle.pieces.proofs.read_triangles.Reads as read-triangles-reads
 
 abbrev Inv-loop : tie.InvT-loop
 Inv-loop coords triangles indices₀ lengths₀ edges₀ eights₀ vert₀ succ₀ pred₀ queue₀ count₀ a₀ w₀ indices lengths edges eights vert succ pred queue count a w =

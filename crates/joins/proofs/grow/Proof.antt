@@ -1,5 +1,5 @@
 -- `grow` meets its contract. The invariant: the merge of the pieces is that of A, joined so far, and the later pieces; and the queue holds the places that still may have a join.
-use Prim.Native.Nat.{ℕ, _+_, _-_, _*_, _≤_, _<_}
+use Prim.Native.Nat.{_+_, _-_, _*_, _≤_, _<_}
 use native.Mathlib.Omega.{arith}
 use borrow.Author.Needs.{needs}
 use mathlib.Core.Path.{_≡_, refl}
@@ -14,14 +14,6 @@ use Rattle.joins.specs.declared.looks.Look.the-variants.{Joins}
 use Rattle.joins.proofs.Growing.{Growing, looked-is, grow-first, len-low, live-low, readable, grow-lone, grow-refused, piece-range, room, last-low, third-below, grow-joined, finished}
 use Rattle.joins.proofs.grow.Statement.{statement}
 use Rattle.joins.proofs.grow.Tie as tie
-use Rattle.joins.proofs.grow.Reads as reads
-use Rattle.joins.proofs.grow.Lts as lts
-use Rattle.joins.proofs.looks.look_at.Reads as look-at-reads
-use Rattle.joins.proofs.ring.begin.Reads as begin-reads
-use Rattle.joins.proofs.ring.narrow.Reads as narrow-reads
-use Rattle.joins.proofs.ring.put_between.Reads as put-between-reads
-use Rattle.joins.proofs.ring.wide.Reads as wide-reads
-use Rattle.pieces.proofs.take_out.Reads as take-out-reads
 
 abbrev Inv-loop : tie.InvT-loop
 Inv-loop coords edges₀ eights₀ vert₀ succ₀ pred₀ queue₀ a given count₀ start₀ len₀ head₀ live₀ refused₀ edges eights vert succ pred queue count start len head live refused =

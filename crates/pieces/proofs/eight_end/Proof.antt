@@ -1,13 +1,9 @@
 -- `eight_end` meets its contract.
 use native.Mathlib.Omega.{arith}
-use Rattle.pieces.proofs.Searching.{behind-none, behind-all}
+use Rattle.pieces.proofs.Searching.{behind-none}
 use borrow.Author.Needs.{needs}
 use Rattle.pieces.proofs.eight_end.Statement.{statement}
 use Rattle.pieces.proofs.eight_end.Tie as tie
-use Rattle.pieces.proofs.eight_end.Reads as reads
-use Rattle.pieces.proofs.eight_end.Lts as lts
-use Rattle.pieces.proofs.in_eight.Reads as in-eight-reads
-use Rattle.pieces.proofs.smaller.Reads as smaller-reads
 
 in-eight-requires : tie.Need-in-eight-requires
 in-eight-requires c κs = search needs

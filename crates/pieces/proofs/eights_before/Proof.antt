@@ -1,12 +1,9 @@
 -- `eights_before` meets its contract.
 use native.Mathlib.Omega.{arith}
 use lib.Count.{trailing-le}
-use denote.Ref.{now}
 use borrow.Author.Needs.{needs}
 use Rattle.pieces.proofs.eights_before.Statement.{statement}
 use Rattle.pieces.proofs.eights_before.Tie as tie
-use Rattle.pieces.proofs.eights_before.Reads as reads
-use Rattle.pieces.proofs.eights_before.Lts as lts
 
 cast-result : tie.Need-cast-result
 cast-result c = omega (arith, trailing-le 64 (c .args .word))

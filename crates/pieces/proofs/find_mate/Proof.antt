@@ -1,18 +1,11 @@
 -- `find_mate` meets its contract. The outer loop's invariant says that the eights passed hold no mate, the inner ones' that the pieces and the corners passed hold none.
-use Prim.Native.Nat.{ℕ, _+_, _*_, _-_, _/_, _%_, _^_, _≤_, _<_, min, max}
+use Prim.Native.Nat.{_+_, _-_, _≤_, _<_}
 use native.Mathlib.Omega.{arith}
 use borrow.Author.Needs.{needs}
-use mathlib.Core.Path.{_≡_, refl, sym, _∙_}
+use mathlib.Core.Path.{sym, _∙_}
 use Rattle.pieces.proofs.Searching.{Seeking, Within, passed-enter, passed-piece, passed-edge, seek-first, skip-low, seek-skip, seek-next, seek-none, found-at}
 use Rattle.pieces.proofs.find_mate.Statement.{statement}
 use Rattle.pieces.proofs.find_mate.Tie as tie
-use Rattle.pieces.proofs.find_mate.Reads as reads
-use Rattle.pieces.proofs.find_mate.Lts as lts
-use Rattle.pieces.proofs.edge.Reads as edge-reads
-use Rattle.pieces.proofs.eight_end.Reads as eight-end-reads
-use Rattle.pieces.proofs.eights_before.Reads as eights-before-reads
-use Rattle.pieces.proofs.larger.Reads as larger-reads
-use Rattle.pieces.proofs.third_corner.Reads as third-corner-reads
 
 abbrev Inv-loop2 : tie.InvT-loop2
 Inv-loop2 edges eights from count e s want found₀ g word skip end b j₀ found j = Within edges eights from count e s want found g word end b j × (b < end) × (j ≤ 3)

@@ -13,9 +13,6 @@ use lib.ListN.{getD}
 use denote.Ref.{now}
 use Rattle.pieces.proofs.in_eight.Statement.{statement}
 use Rattle.pieces.proofs.in_eight.Tie as tie
-use Rattle.pieces.proofs.in_eight.Reads as reads
-use Rattle.pieces.proofs.in_eight.Lts as lts
-use Rattle.entries.proofs.either.Reads as either-reads
 
 -- one edge more
 more-apart :

@@ -1,15 +1,11 @@
 -- `put_piece` meets its contract.
 use Prim.Native.Nat.{ℕ}
-use mathlib.Core.Path.{_≡_, refl, _∙_, ap, ap₂}
+use mathlib.Core.Path.{_≡_, refl}
 use mathlib.Core.List.{List}
 use Rattle.pieces.specs.Pieces.{startOf, putPiece, show, shows}
 use borrow.Author.Needs.{needs}
 use Rattle.pieces.proofs.put_piece.Statement.{statement}
 use Rattle.pieces.proofs.put_piece.Tie as tie
-use Rattle.pieces.proofs.put_piece.Reads as reads
-use Rattle.pieces.proofs.put_piece.Lts as lts
-use Rattle.pieces.proofs.show_eight.Reads as show-eight-reads
-use Rattle.pieces.proofs.start.Reads as start-reads
 
 shown :
     (eights : List ℕ) (k x y z : ℕ) {s t u : ℕ} → s ≡ startOf x → t ≡ startOf y → u ≡ startOf z

@@ -1,5 +1,5 @@
 -- `read_triangles` meets its contract. The invariant: k triangles are read.
-use Prim.Native.Nat.{ℕ, _+_, _*_, _-_, _/_, _%_, _≤_, _<_}
+use Prim.Native.Nat.{ℕ, _+_, _*_, _-_, _/_, _≤_, _<_}
 use native.Mathlib.Omega.{arith}
 use borrow.Author.Needs.{needs}
 use mathlib.Core.Path.{_≡_, subst}
@@ -13,11 +13,6 @@ use Rattle.pieces.specs.Pieces.{edgeOf, putPiece, shows, later, Lie}
 use Rattle.pieces.proofs.Reading.{Read, read-first, read-more, read-all}
 use Rattle.pieces.proofs.read_triangles.Statement.{statement}
 use Rattle.pieces.proofs.read_triangles.Tie as tie
-use Rattle.pieces.proofs.read_triangles.Reads as reads
-use Rattle.pieces.proofs.read_triangles.Lts as lts
-use Rattle.entries.proofs.wide.Reads as wide-reads
-use Rattle.pieces.proofs.edge.Reads as edge-reads
-use Rattle.pieces.proofs.put_piece.Reads as put-piece-reads
 
 abbrev Inv-loop : tie.InvT-loop
 Inv-loop triangles edges₀ eights₀ count k₀ edges eights k = Read triangles edges eights k × (k ≤ count)

@@ -6,10 +6,7 @@ use mathlib.Core.Path.{refl}
 use lib.Bits.{and-le-l}
 use Rattle.pieces.proofs.shared.Statement.{statement}
 use Rattle.pieces.proofs.shared.Tie as tie
-use Rattle.pieces.proofs.shared.Reads as reads
-use Rattle.pieces.proofs.shared.Lts as lts
 
--- src/lib.rt:146:1
 returns : tie.Need-returns
 returns c = let low : c .args .a < 2 ^ 64 = omega arith in (refl, lt-of-le-of-lt (and-le-l (c .args .a) (c .args .b)) low)
 

@@ -10,8 +10,6 @@ use Rattle.pieces.proofs.Digits.{one-shifted}
 use borrow.Author.Needs.{needs}
 use Rattle.pieces.proofs.show_eight.Statement.{statement}
 use Rattle.pieces.proofs.show_eight.Tie as tie
-use Rattle.pieces.proofs.show_eight.Reads as reads
-use Rattle.pieces.proofs.show_eight.Lts as lts
 
 shl-eight : tie.Need-shl-eight
 shl-eight c = search needs

@@ -6,9 +6,6 @@ use lib.ListN.{getD}
 use borrow.Author.Needs.{needs}
 use Rattle.joins.proofs.looks.corner_beyond.Statement.{statement}
 use Rattle.joins.proofs.looks.corner_beyond.Tie as tie
-use Rattle.joins.proofs.looks.corner_beyond.Reads as reads
-use Rattle.joins.proofs.looks.corner_beyond.Lts as lts
-use Rattle.joins.proofs.ring.wide.Reads as wide-reads
 
 mul-wide : tie.Need-mul-wide
 mul-wide c = search needs

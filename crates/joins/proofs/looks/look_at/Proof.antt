@@ -7,12 +7,6 @@ use Rattle.joins.proofs.Corners.{looked-lone, third-low, looked-refused
 use borrow.Author.Needs.{needs}
 use Rattle.joins.proofs.looks.look_at.Statement.{statement}
 use Rattle.joins.proofs.looks.look_at.Tie as tie
-use Rattle.joins.proofs.looks.look_at.Reads as reads
-use Rattle.joins.proofs.looks.look_at.Lts as lts
-use Rattle.joins.proofs.looks.corner_beyond.Reads as corner-beyond-reads
-use Rattle.joins.proofs.looks.may_join.Reads as may-join-reads
-use Rattle.joins.proofs.ring.wide.Reads as wide-reads
-use Rattle.pieces.proofs.find_mate.Reads as find-mate-reads
 
 -- the places of the code, each from a later one
 abbrev read : tie.After-find-mate → tie.After-wide

@@ -3,9 +3,6 @@ use Rattle.joins.proofs.Corners.{first-bent, second-asked}
 use borrow.Author.Needs.{needs}
 use Rattle.joins.proofs.looks.may_join.Statement.{statement}
 use Rattle.joins.proofs.looks.may_join.Tie as tie
-use Rattle.joins.proofs.looks.may_join.Reads as reads
-use Rattle.joins.proofs.looks.may_join.Lts as lts
-use Rattle.joins.proofs.looks.turns_right.Reads as turns-right-reads
 
 turns-right-requires : tie.Need-turns-right-requires
 turns-right-requires c κs = search needs

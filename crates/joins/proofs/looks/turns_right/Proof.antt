@@ -6,11 +6,6 @@ use Rattle.joins.proofs.Corners.{turn-is}
 use borrow.Author.Needs.{needs}
 use Rattle.joins.proofs.looks.turns_right.Statement.{statement}
 use Rattle.joins.proofs.looks.turns_right.Tie as tie
-use Rattle.joins.proofs.looks.turns_right.Reads as reads
-use Rattle.joins.proofs.looks.turns_right.Lts as lts
-use Rattle.grid.proofs.point_at.Reads as point-at-reads
-use Rattle.grid.proofs.point_in_triangle.Orientation.is_cw.Reads as is-cw-reads
-use Rattle.grid.proofs.point_in_triangle.corner_direction.Reads as corner-direction-reads
 
 point-at-requires : tie.Need-point-at-requires
 point-at-requires c κs = let s = c .before in (s .pre .0, point-fits _ _ (s .pre .1 .0))

@@ -4,10 +4,6 @@ use Rattle.joins.proofs.Places.{begins}
 use borrow.Author.Needs.{needs}
 use Rattle.joins.proofs.ring.begin.Statement.{statement}
 use Rattle.joins.proofs.ring.begin.Tie as tie
-use Rattle.joins.proofs.ring.begin.Reads as reads
-use Rattle.joins.proofs.ring.begin.Lts as lts
-use Rattle.joins.proofs.ring.narrow.Reads as narrow-reads
-use Rattle.pieces.proofs.start.Reads as start-reads
 
 mul-start : tie.Need-mul-start
 mul-start c = search needs

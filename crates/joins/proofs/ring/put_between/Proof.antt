@@ -6,9 +6,6 @@ use lib.ListN.{set}
 use borrow.Author.Needs.{needs}
 use Rattle.joins.proofs.ring.put_between.Statement.{statement}
 use Rattle.joins.proofs.ring.put_between.Tie as tie
-use Rattle.joins.proofs.ring.put_between.Reads as reads
-use Rattle.joins.proofs.ring.put_between.Lts as lts
-use Rattle.joins.proofs.ring.narrow.Reads as narrow-reads
 
 narrow-requires : tie.Need-narrow-requires
 narrow-requires c κs = search needs

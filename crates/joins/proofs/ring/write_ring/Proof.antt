@@ -8,10 +8,6 @@ use borrow.Author.Needs.{needs}
 use Rattle.joins.proofs.Writing.{Writing, writing-first, out-size, place-low, writing-more, writing-end}
 use Rattle.joins.proofs.ring.write_ring.Statement.{statement}
 use Rattle.joins.proofs.ring.write_ring.Tie as tie
-use Rattle.joins.proofs.ring.write_ring.Reads as reads
-use Rattle.joins.proofs.ring.write_ring.Lts as lts
-use Rattle.entries.proofs.wide_half.Reads as wide-half-reads
-use Rattle.joins.proofs.ring.wide.Reads as wide-reads
 
 abbrev Inv-loop : tie.InvT-loop
 Inv-loop vert succ start len out₀ at₀ i₀ out at i = Writing vert succ start len out₀ out at i
