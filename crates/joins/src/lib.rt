@@ -53,6 +53,7 @@ pub fn grow(
     let mut count = given;
     let mut start = 0;
     let mut len = 3;
+    // The queue's `live` places from `head` on stand in ring order. Its last `refused` were refused since A's last join.
     let mut head = 0;
     let mut live = 3;
     let mut refused = 0;
@@ -69,6 +70,7 @@ pub fn grow(
                 refused += 1;
                 head += 1;
             }
+            // Corner 0 of A joined is at e, the next in ring order.
             Look::Joins { piece, third } => {
                 count -= 1;
                 take_out(edges, eights, piece, count);
