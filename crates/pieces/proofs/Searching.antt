@@ -83,9 +83,25 @@ pub record Within (edges eights : List ℕ) (from count e s want : ℕ) (found :
   pub first : from ≤ b
   pub passed-here : Passed edges (edgeOf e s) from count (3 * b + j)
 
--- ---- an eight that holds the edge holds both its points
+-- what the search may lean on
+pub record Asked (edges eights : List ℕ) (from count e s : ℕ) : Type 0 where
+  pub lie : Lie edges eights from count
+  pub before-end : from ≤ count
+  pub e-low : e < 512
+  pub s-low : s < 512
 
-module _ (edges eights : List ℕ) (from count e s : ℕ) (lie : Lie edges eights from count) (before-end : from ≤ count) (e-low : e < 512) (s-low : s < 512) where
+module _ {edges eights : List ℕ} {from count e s : ℕ} (asked : Asked edges eights from count e s) where
+  lie : Lie edges eights from count
+  lie = asked .lie
+
+  e-low : e < 512
+  e-low = asked .e-low
+
+  s-low : s < 512
+  s-low = asked .s-low
+
+  -- ---- an eight that holds the edge holds both its points
+
   abbrev both : ℕ
   both = bitAnd (getD eights e 0) (getD eights s 0)
 
@@ -214,10 +230,10 @@ module _ (edges eights : List ℕ) (from count e s : ℕ) (lie : Lie edges eight
 
   -- ---- the steps of the search
 
-  module _ (want : ℕ) where
+  module _ {want : ℕ} where
     pub seek-first : want ≡ edgeOf e s → {word : ℕ} → (word ≡ both) × (word < 2 ^ 64) → Seeking edges eights from count e s want Nobody (from / 8) (word / 2 ^ (from / 8))
     seek-first is (word-is, fits) =
-        let low : from / 8 ≤ 64 = omega (arith, lie .few) in
+        let low : from / 8 ≤ 64 = omega (arith, lie .few, asked .before-end) in
         record {
           want-is = is;
           nobody = refl;

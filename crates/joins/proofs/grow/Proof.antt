@@ -2,16 +2,16 @@
 use Prim.Native.Nat.{_+_, _-_, _*_, _≤_, _<_}
 use native.Mathlib.Omega.{arith}
 use borrow.Author.Needs.{needs}
-use mathlib.Core.Path.{_≡_, refl}
+use mathlib.Core.Path.{_≡_}
 use denote.Ref.{now}
 use lib.ListN.{length}
 use Rattle.rules.specs.Grid.{pointsOf}
 use Rattle.rules.specs.Merge.{mayJoin}
 use Rattle.pieces.proofs.Later.{low}
-use Rattle.joins.specs.Looks.{Readable, Looked}
+use Rattle.joins.specs.Looks.{Looked}
 use Rattle.joins.specs.declared.looks.Look.{Look}
 use Rattle.joins.specs.declared.looks.Look.the-variants.{Joins}
-use Rattle.joins.proofs.Growing.{Growing, looked-is, grow-first, len-low, live-low, readable, grow-lone, grow-refused, piece-range, room, last-low, third-below, grow-joined, finished}
+use Rattle.joins.proofs.Growing.{Growing, Turn, head-place, looked-is, grow-first, len-low, live-low, readable, grow-lone, grow-refused, piece-range, room, last-low, third-below, grow-joined, finished}
 use Rattle.joins.proofs.grow.Statement.{statement}
 use Rattle.joins.proofs.grow.Tie as tie
 
@@ -57,14 +57,21 @@ joined c = joins (taken (put c))
 
 -- ---- what is known there
 
--- the place at the head of the queue
-head-low : (c : tie.After-wide Inv-loop μ-loop) → c .wide .result < 512
-head-low c = let l = c .before .before in readable (l .before .loop .inv) (l .loop-test .taken) _ _ (c .wide .ensures) refl .at-s .place
+-- the turn, where the two places are read
+abbrev Turning : tie.After-wide2 Inv-loop μ-loop → Type 0
+Turning c =
+    let l = turn c .before in
+    let s = entry l .args in
+    Turn (mayJoin (pointsOf (now (s .coords)))) (length (pointsOf (now (s .coords)))) (now (s .edges)) (s .a) (s .given)
+    (l .loop .edges) (l .loop .eights) (l .loop .vert) (l .loop .succ) (l .loop .pred) (l .loop .queue)
+    (l .loop .count) (l .loop .start) (l .loop .len) (l .loop .head) (l .loop .live) (l .loop .refused) (c .before .before .wide .result) (c .wide2 .result)
 
-places :
-    (c : tie.After-wide2 Inv-loop μ-loop)
-    → Readable (length (pointsOf (now (entry (turn c .before) .args .coords)))) (turn c .before .loop .vert) (turn c .before .loop .succ) (turn c .before .loop .pred) (c .before .before .wide .result) (c .wide2 .result)
-places c = readable (turn c .before .loop .inv) (turn c .loop-test .taken) _ _ (c .before .before .wide .ensures) (c .wide2 .ensures)
+turning : (c : tie.After-wide2 Inv-loop μ-loop) → Turning c
+turning c = record { growing = turn c .before .loop .inv; more = turn c .loop-test .taken; is-s = c .before .before .wide .ensures; is-e = c .wide2 .ensures }
+
+-- and where only the first is
+head-low : (c : tie.After-wide Inv-loop μ-loop) → c .wide .result < 512
+head-low c = let l = c .before .before in head-place (l .before .loop .inv) (l .loop-test .taken) _ (c .wide .ensures)
 
 -- what the look has found
 abbrev Found : tie.After-look-at Inv-loop μ-loop → Look → Type 0
@@ -82,11 +89,11 @@ joining : (c : tie.After-known-told Inv-loop μ-loop) → Joining c
 joining c = found (joins c) _ (c .before .piece .given .1)
 
 range : (c : tie.After-known-told Inv-loop μ-loop) → let l = turn (look (joins c)) .before in (entry l .args .a + 1 ≤ c .before .piece .given .0 .0) × (c .before .piece .given .0 .0 < l .loop .count)
-range c = let f = joins c in piece-range (turn (look f) .before .loop .inv) (turn (look f) .loop-test .taken) _ _ (look f .before .before .wide .ensures) (look f .wide2 .ensures) _ _ (joining c)
+range c = let f = joins c in piece-range (turning (look f)) _ _ (joining c)
 
 -- the number of the new place
 new-low : (c : tie.After-known-told Inv-loop μ-loop) → turn (look (joins c)) .before .loop .len < 512
-new-low c = let f = joins c in room (turn (look f) .before .loop .inv) (turn (look f) .loop-test .taken) _ _ (look f .before .before .wide .ensures) (look f .wide2 .ensures) _ _ (joining c)
+new-low c = let f = joins c in room (turning (look f)) _ _ (joining c)
 
 begin-requires : tie.Need-begin-requires Inv-loop μ-loop
 begin-requires c κs =
@@ -123,7 +130,7 @@ look-at-requires c κs =
     let l = turn (read c) .before in
     let i = l .loop .inv in
     let p = entry l .pre in
-    (p .0, ((i .lie, omega (arith, i .behind)), ((i .corners, p .1 .1 .0 .1), places (read c))))
+    (p .0, ((i .lie, omega (arith, i .behind)), ((i .corners, p .1 .1 .0 .1), readable (turning (read c)))))
 
 enum-told : tie.Need-enum-told Inv-loop μ-loop
 enum-told c = search needs
@@ -138,13 +145,13 @@ loop-less : tie.Need-loop-less Inv-loop μ-loop
 loop-less c = let l = turn (look (c .before .before)) in omega (arith, l .loop-test .taken)
 
 loop-again : tie.Need-loop-again Inv-loop μ-loop
-loop-again c = let f = c .before .before in grow-lone (turn (look f) .before .loop .inv) (turn (look f) .loop-test .taken) _ _ (look f .before .before .wide .ensures) (look f .wide2 .ensures) (found f _ (c .enum-told .given .1))
+loop-again c = let f = c .before .before in grow-lone (turning (look f)) (found f _ (c .enum-told .given .1))
 
 enum-told-2 : tie.Need-enum-told-2 Inv-loop μ-loop
 enum-told-2 c = search needs
 
 narrow-requires : tie.Need-narrow-requires Inv-loop μ-loop
-narrow-requires c κs = places (look (c .before .before)) .at-s .place
+narrow-requires c κs = readable (turning (look (c .before .before))) .at-s .place
 
 add-queue : tie.Need-add-queue Inv-loop μ-loop
 add-queue c = let l = turn (look (refusal c)) .before in omega (arith, l .loop .inv .bounded, live-low (l .loop .inv), len-low (l .loop .inv))
@@ -165,7 +172,7 @@ loop-less-2 : tie.Need-loop-less-2 Inv-loop μ-loop
 loop-less-2 c = let l = turn (look (refusal c)) in omega (arith, l .loop-test .taken)
 
 loop-again-2 : tie.Need-loop-again-2 Inv-loop μ-loop
-loop-again-2 c = let f = refusal c in grow-refused (turn (look f) .before .loop .inv) (turn (look f) .loop-test .taken) _ _ (look f .before .before .wide .ensures) (look f .wide2 .ensures) (found f _ (c .before .enum-told2 .given .1)) _ (c .narrow .ensures)
+loop-again-2 c = let f = refusal c in grow-refused (turning (look f)) (found f _ (c .before .enum-told2 .given .1)) _ (c .narrow .ensures)
 
 enum-known-piece : tie.Need-enum-known-piece Inv-loop μ-loop
 enum-known-piece c = search needs
@@ -179,18 +186,18 @@ take-out-requires c κs =
     let f = joins j in
     let r = range j in
     let i = turn (look f) .before .loop .inv in
-    (omega (arith, r, i .lie .few), omega (arith, r, i .lie .few), last-low (turn (look f) .before .loop .inv) (turn (look f) .loop-test .taken) _ _ (look f .before .before .wide .ensures) (look f .wide2 .ensures) _ _ (joining j))
+    (omega (arith, r, i .lie .few), omega (arith, r, i .lie .few), last-low (turning (look f)) _ _ (joining j))
 
 put-between-requires : tie.Need-put-between-requires Inv-loop μ-loop
 put-between-requires c κs =
     let j = taken (c .before .before .before) in
     let f = joins j in
-    let s = places (look f) in
-    let below = third-below (turn (look f) .before .loop .inv) (turn (look f) .loop-test .taken) _ _ (look f .before .before .wide .ensures) (look f .wide2 .ensures) _ _ (joining j) in
+    let s = readable (turning (look f)) in
+    let below = third-below (turning (look f)) _ _ (joining j) in
     (s .at-s .place, s .at-e .place, new-low j, omega (arith, below, entry (turn (look f) .before) .pre .1 .1 .0 .1))
 
 narrow-requires-2 : tie.Need-narrow-requires-2 Inv-loop μ-loop
-narrow-requires-2 c κs = places (look (joins (taken (put c)))) .at-s .place
+narrow-requires-2 c κs = readable (turning (look (joined c))) .at-s .place
 
 add-queue-2 : tie.Need-add-queue-2 Inv-loop μ-loop
 add-queue-2 c = let i = turn (look (joined (c .before))) .before .loop .inv in omega (arith, i .bounded, live-low i, len-low i)
@@ -240,7 +247,7 @@ loop-again-3 c =
     let f = joins j in
     let x = t .take-out .ensures in
     let y = p .put-between .ensures in
-    grow-joined (turn (look f) .before .loop .inv) (turn (look f) .loop-test .taken) _ _ (look f .before .before .wide .ensures) (look f .wide2 .ensures) _ _ (joining j) (x .0) (x .1) (y .0) (y .1 .0) (y .1 .1) (c .before .narrow2 .ensures) (c .narrow3 .ensures)
+    grow-joined (turning (look f)) _ _ (joining j) (x .0) (x .1) (y .0) (y .1 .0) (y .1 .1) (c .before .narrow2 .ensures) (c .narrow3 .ensures)
 
 returns : tie.Need-returns Inv-loop μ-loop
 returns c = finished (c .before .loop .inv) (c .loop-test .left)

@@ -1,9 +1,10 @@
 -- `find_mate` meets its contract. The outer loop's invariant says that the eights passed hold no mate, the inner ones' that the pieces and the corners passed hold none.
 use Prim.Native.Nat.{_+_, _-_, _≤_, _<_}
 use native.Mathlib.Omega.{arith}
+use denote.Ref.{now}
 use borrow.Author.Needs.{needs}
 use mathlib.Core.Path.{sym, _∙_}
-use Rattle.pieces.proofs.Searching.{Seeking, Within, passed-enter, passed-piece, passed-edge, seek-first, skip-low, seek-skip, seek-next, seek-none, found-at}
+use Rattle.pieces.proofs.Searching.{Asked, Seeking, Within, passed-enter, passed-piece, passed-edge, seek-first, skip-low, seek-skip, seek-next, seek-none, found-at}
 use Rattle.pieces.proofs.find_mate.Statement.{statement}
 use Rattle.pieces.proofs.find_mate.Tie as tie
 
@@ -29,6 +30,9 @@ abbrev μ-search : tie.MeasureT-search
 abbrev entry : tie.At-search Inv-loop2 μ-loop2 Inv-loop μ-loop Inv-search μ-search → tie.Start Inv-loop2 μ-loop2 Inv-loop μ-loop Inv-search μ-search
 entry c = let words = c .before .before in words .before .before .before
 
+asked : (c : tie.Start Inv-loop2 μ-loop2 Inv-loop μ-loop Inv-search μ-search) → Asked (now (c .args .edges)) (now (c .args .eights)) (c .args .from) (c .args .count) (c .args .e) (c .args .s)
+asked c = record { lie = c .pre .0; before-end = c .pre .1 .2; e-low = c .pre .1 .0; s-low = c .pre .1 .1 }
+
 abbrev turn : tie.After-eights-before Inv-loop2 μ-loop2 Inv-loop μ-loop Inv-search μ-search → tie.At-search Inv-loop2 μ-loop2 Inv-loop μ-loop Inv-search μ-search
 turn c = c .before .before
 
@@ -38,8 +42,8 @@ skipped c = c .before .before .before
 -- the next eight that holds both points
 next-low : (c : tie.After-eights-before Inv-loop2 μ-loop2 Inv-loop μ-loop Inv-search μ-search) → turn c .search .g + c .eights-before .result < 64
 next-low c =
-    let p = entry (turn c) .pre in
-    skip-low _ _ _ _ _ _ (p .0) (p .1 .2) (p .1 .0) (p .1 .1) _ (turn c .search .inv) (c .before .search-test .taken) _ (c .eights-before .ensures)
+    let p = asked (entry (turn c)) in
+    skip-low p (turn c .search .inv) (c .before .search-test .taken) _ (c .eights-before .ensures)
 
 edge-requires : tie.Need-edge-requires Inv-loop2 μ-loop2 Inv-loop μ-loop Inv-search μ-search
 edge-requires c κs = search needs
@@ -63,7 +67,7 @@ shr-word : tie.Need-shr-word Inv-loop2 μ-loop2 Inv-loop μ-loop Inv-search μ-s
 shr-word c = omega arith
 
 search-holds : tie.Need-search-holds Inv-loop2 μ-loop2 Inv-loop μ-loop Inv-search μ-search
-search-holds c = let p = c .before .before .before .before .pre in seek-first _ _ _ _ _ _ (p .0) (p .1 .2) (p .1 .0) (p .1 .1) _ (c .before .before .before .edge .ensures) (c .shared .ensures)
+search-holds c = let p = asked (c .before .before .before .before) in seek-first p (c .before .before .before .edge .ensures) (c .shared .ensures)
 
 eights-before-requires :
     tie.Need-eights-before-requires Inv-loop2 μ-loop2 Inv-loop μ-loop Inv-search μ-search
@@ -89,9 +93,9 @@ loop-holds : tie.Need-loop-holds Inv-loop2 μ-loop2 Inv-loop μ-loop Inv-search 
 loop-holds c =
     let eight = c .before in
     let skips = eight .before in
-    let p = entry (turn skips) .pre in
+    let p = asked (entry (turn skips)) in
     let low = next-low skips in
-    let seeking = seek-skip _ _ _ _ _ _ (p .0) (p .1 .2) (p .1 .0) (p .1 .1) _ (turn skips .search .inv) _ (skips .eights-before .ensures) low in
+    let seeking = seek-skip p (turn skips .search .inv) _ (skips .eights-before .ensures) low in
     record {
       seeking = seeking;
       in-range = low;
@@ -108,8 +112,8 @@ loop2-holds c = (c .before .loop .inv, c .loop-test .taken, omega arith)
 piece-low : (c : tie.At-loop2 Inv-loop2 μ-loop2 Inv-loop μ-loop Inv-search μ-search) → c .before .before .loop .b < 510
 piece-low c =
     let w = c .loop2 .inv in
-    let p = entry (turn (skipped (c .before .before))) .pre in
-    omega (arith, w .1, w .0 .within, p .0 .few)
+    let p = asked (entry (turn (skipped (c .before .before)))) in
+    omega (arith, w .1, w .0 .within, p .lie .few)
 
 mul-if1 : tie.Need-mul-if1 Inv-loop2 μ-loop2 Inv-loop μ-loop Inv-search μ-search
 mul-if1 c = omega (arith, piece-low (c .before))
@@ -178,11 +182,11 @@ search-less c = omega (arith, c .before .loop .inv .in-range)
 search-again : tie.Need-search-again Inv-loop2 μ-loop2 Inv-loop μ-loop Inv-search μ-search
 search-again c =
     let here = c .before .loop .inv in
-    let p = entry (turn (skipped (c .before))) .pre in
-    seek-next _ _ _ _ _ _ (p .0) (p .1 .2) (p .1 .0) (p .1 .1) _ (here .seeking) _ _ (here .behind) (c .loop-test .left) (here .passed-here) (here .in-range)
+    let p = asked (entry (turn (skipped (c .before)))) in
+    seek-next p (here .seeking) _ _ (here .behind) (c .loop-test .left) (here .passed-here) (here .in-range)
 
 returns : tie.Need-returns Inv-loop2 μ-loop2 Inv-loop μ-loop Inv-search μ-search
-returns c = let p = entry (c .before) .pre in seek-none _ _ _ _ _ _ (p .0) (p .1 .2) (p .1 .0) (p .1 .1) _ (c .before .search .inv) (c .search-test .left)
+returns c = let p = asked (entry (c .before)) in seek-none p (c .before .search .inv) (c .search-test .left)
 
 returns-2 : tie.Need-returns-2 Inv-loop2 μ-loop2 Inv-loop μ-loop Inv-search μ-search
 returns-2 c =
@@ -190,8 +194,8 @@ returns-2 c =
     let l = read .before in
     let w = l .before .loop2 .inv in
     let here = w .0 in
-    let p = entry (turn (skipped (l .before .before .before))) .pre in
-    found-at _ _ _ _ _ _ (p .0) (p .1 .2) (p .1 .0) (p .1 .1) _ _ (here .first) (omega (arith, w .1, here .within)) (l .loop2-test .taken) (here .passed-here) (c .before .if1 .taken ∙ here .seeking .want-is) _ (c .third-corner .ensures)
+    let p = asked (entry (turn (skipped (l .before .before .before)))) in
+    found-at p _ _ (here .first) (omega (arith, w .1, here .within)) (l .loop2-test .taken) (here .passed-here) (c .before .if1 .taken ∙ here .seeking .want-is) _ (c .third-corner .ensures)
 
 pub find-mate-spec : {M : Type 1} → statement M
 find-mate-spec =
