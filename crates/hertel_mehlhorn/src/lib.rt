@@ -2,56 +2,30 @@
 use entries::Answer;
 use entries::MOST_POINTS;
 use entries::MOST_TRIANGLES;
-use entries::threes;
 use entries::wide;
-use entries::zeros;
 use grid::outline::outline_refusal;
-use joins::Join;
-use joins::next_join;
-use pieces::joining::join_pieces;
-use pieces::ring::Ring;
-use pieces::ring::write_ring;
+use joins::grow;
+use joins::ring::no_places;
+use joins::ring::no_queue;
+use joins::ring::write_ring;
+use pieces::no_edges;
+use pieces::no_eights;
+use pieces::read_triangles;
 ghost use mathlib.Core.Path.{_≡_};
 ghost use Prim.Native.Nat.{_/_, _%_, _≤_};
-ghost use lib.ListN.{length, take};
-ghost use Rattle.algebra.specs.Lists.{sum};
-ghost use Rattle.rules.specs.Limits.{mostTriangles, mostIndices};
+ghost use lib.ListN.{length};
+ghost use Rattle.rules.specs.Limits.{mostPoints, mostTriangles, mostIndices};
 ghost use Rattle.rules.specs.Grid.{pointsOf};
-ghost use Rattle.rules.specs.Layout.{flatten, triples, over};
+ghost use Rattle.rules.specs.Layout.{triples};
 ghost use Rattle.rules.specs.Merge.{mayJoin, merge as mergeOf};
 ghost use Rattle.rules.specs.Refusals.{firstRefusal, outOfRange, beforeTriangles, mergerChecks};
 ghost use Rattle.grid.specs.Points.{Known};
-ghost use Rattle.pieces.specs.Pieces.{pieces};
 ghost use Rattle.hertel_mehlhorn.specs.Promise.{Written, Promise};
 
-// Writes the pieces one behind the other to `out`, and their lengths to `sizes`.
-fn write_pieces(store: &[u32], lens: &[u32], count: usize, out: &mut [u32], sizes: &mut [u32])
-    requires { ⌜ (count ≤ length (now lens)) × (count ≤ length (now sizes)) ⌝ }
-    requires { ⌜ (sum (take count (now lens)) ≤ length (now store)) × (sum (take count (now lens)) ≤ length (now out)) ⌝ }
-    ensures { λ r. ⌜ now (out .exit) ≡ over (flatten (pieces (now (store .entry)) (now (lens .entry)) 0 count 0)) (now (out .entry)) ⌝ }
-    ensures { λ r. ⌜ now (sizes .exit) ≡ over (take count (now (lens .entry))) (now (sizes .entry)) ⌝ }
-{
-    let mut at = 0;
-    let mut k = 0;
-    while k < count {
-        let size = lens[k];
-        let n = wide(size);
-        let r = Ring {
-            at,
-            len: n,
-            first: 0,
-        };
-        write_ring(store, r, 0, &mut out[at..]);
-        sizes[k] = size;
-        at += n;
-        k += 1;
-    }
-}
-
 // The merge of the given triangles, three indices each: the pieces one behind the other in `indices`, and their lengths in
-// `lengths`. Answers the number of pieces.
+// `lengths`. Each is written when it is finished. Answers the number of pieces.
 fn merge(coords: &[f32], triangles: &[u32], indices: &mut [u32], lengths: &mut [u32]) -> usize
-    requires { ⌜ Known (now coords) (now triangles) ⌝ }
+    requires { ⌜ Known (now coords) (now triangles) × (length (pointsOf (now coords)) ≤ mostPoints) ⌝ }
     requires { ⌜ (length (now triangles) % 3 ≡ 0) × (length (now triangles) ≤ mostIndices) ⌝ }
     requires { ⌜ (length (now triangles) ≤ length (now indices)) × (length (now triangles) / 3 ≤ length (now lengths)) ⌝ }
     ensures { λ r. ⌜
@@ -59,40 +33,34 @@ fn merge(coords: &[f32], triangles: &[u32], indices: &mut [u32], lengths: &mut [
         ⌝ }
     ensures { λ r. ⌜ r ≤ mostTriangles ⌝ }
 {
-    let mut total = triangles.len();
-    let mut count = total / 3;
-    let mut store = zeros();
-    let mut lens = threes();
-    words::copy(triangles, &mut store);
-    let mut old = zeros();
-    let mut sizes = threes();
+    let mut edges = no_edges();
+    let mut eights = no_eights();
+    read_triangles(triangles, &mut edges, &mut eights);
+    let mut vert = no_places();
+    let mut succ = no_places();
+    let mut pred = no_places();
+    let mut queue = no_queue();
+    let mut count = triangles.len() / 3;
     let mut a = 0;
-    let mut at = 0;
+    let mut w = 0;
     while a < count {
-        match next_join(coords, &store, &lens, count, total, a, at) {
-            Join::Nowhere => {
-                at += wide(lens[a]);
-                a += 1;
-            }
-            Join::At { own, piece, ring } => {
-                join_pieces(
-                    &mut store,
-                    &mut lens,
-                    &mut old,
-                    &mut sizes,
-                    count,
-                    total,
-                    a,
-                    own,
-                    piece,
-                    ring,
-                );
-                count -= 1;
-                total -= 2;
-            }
-        }
+        let piece = grow(
+            coords,
+            &mut edges,
+            &mut eights,
+            &mut vert,
+            &mut succ,
+            &mut pred,
+            &mut queue,
+            a,
+            count,
+        );
+        write_ring(&vert, &succ, piece.start, piece.len, &mut indices[w..]);
+        lengths[a] = piece.len as u32;
+        w += piece.len;
+        count = piece.count;
+        a += 1;
     }
-    write_pieces(&store, &lens, count, indices, lengths);
     count
 }
 

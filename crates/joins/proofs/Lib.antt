@@ -1,5 +1,4 @@
 pub mod Corners
-pub mod Edges
-pub mod Scans
-pub mod Ways
-pub mod Joints
+pub mod Places
+pub mod Growing
+pub mod Writing

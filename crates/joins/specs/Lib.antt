@@ -1,1 +1,3 @@
-pub mod Search
+pub mod Ring
+pub mod Looks
+pub mod Growing

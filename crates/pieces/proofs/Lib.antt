@@ -1,6 +1,4 @@
-pub mod Lists
-pub mod Rings
-pub mod Below
-pub mod Writes
-pub mod Kept
-pub mod Changes
+pub mod Digits
+pub mod Later
+pub mod Reading
+pub mod Searching

@@ -1,37 +1,95 @@
--- The pieces stand one behind the other in a flat store, with a second list of their lengths.
-use Prim.Native.Nat.{ℕ, _+_, _≤_}
+-- The later pieces: triangles, each as three edges in a store, and for each point a word that shows in which eights of pieces it stands.
+use Prim.Native.Nat.{ℕ, zero, suc, _+_, _-_, _*_, _/_, _%_, _^_, _≤_, _<_}
+use mathlib.Core.Path.{_≡_}
 use mathlib.Core.List.{List, [], _∷_}
-use lib.ListN.{length, take, drop}
-use lib.Seq.{slice}
-use Rattle.algebra.specs.Lists.{sum}
-use Rattle.algebra.specs.Rings.{begunAt}
-use Rattle.rules.specs.Layout.{split}
-use Rattle.pieces.specs.declared.ring.Ring.{Ring}
+use mathlib.Core.Option.{none, some}
+use lib.Bits.{bitOr}
+use lib.ListN.{length, getD, set}
+use Rattle.algebra.specs.Lists.{Each}
+use Rattle.rules.specs.Merge.{mate}
+use Rattle.pieces.specs.declared.Mate.{Mate}
+use Rattle.pieces.specs.declared.Mate.the-variants.{Nobody, Is}
 
--- n numbers of the store, from `at`
-abbrev pub ring : List ℕ → ℕ → ℕ → List ℕ
-ring store at n = take n (drop at store)
+-- ---- an edge as one number: points are below 512
 
--- what stands at a ring's places, from its first on
-abbrev pub begun : List ℕ → Ring → List ℕ
-begun store r = begunAt (r .first) (ring store (r .at) (r .len))
+abbrev pub edgeOf : ℕ → ℕ → ℕ
+edgeOf s e = s * 512 + e
 
--- the ring lies within the store
-pub record Within (store : List ℕ) (r : Ring) : Type 0 where
-  pub place : r .first ≤ r .len
-  pub fits : r .at + r .len ≤ length store
+abbrev pub startOf : ℕ → ℕ
+startOf edge = edge / 512
 
--- the pieces number a up to b, the first of which begins at `at`
-abbrev pub pieces : List ℕ → List ℕ → ℕ → ℕ → ℕ → List (List ℕ)
-pieces store lens a b at = split (slice a b lens) (drop at store)
+abbrev pub endOf : ℕ → ℕ
+endOf edge = edge % 512
 
--- each of these lengths is one of a ring of three or more
-abbrev pub Long : List ℕ → Type 0
-Long [] = Unit {0}
-Long (n ∷ ns) = (3 ≤ n) × Long ns
+-- ---- pieces
 
--- of `count` pieces, those from number a on lie in the store, the first of them at `at`
-pub record Lies (store lens : List ℕ) (count a at : ℕ) : Type 0 where
-  pub counted : count ≤ length lens
-  pub room : at + sum (slice a count lens) ≤ length store
-  pub long : Long (slice a count lens)
+-- piece k: where its edges begin
+abbrev pub pieceAt : List ℕ → ℕ → List ℕ
+pieceAt edges k = startOf (getD edges (3 * k) 0) ∷ startOf (getD edges (3 * k + 1) 0) ∷ startOf (getD edges (3 * k + 2) 0) ∷ []
+
+-- n pieces from number k on
+unfoldable pub piecesFrom : List ℕ → ℕ → ℕ → List (List ℕ)
+piecesFrom edges k zero = []
+piecesFrom edges k (suc n) = pieceAt edges k ∷ piecesFrom edges (suc k) n
+
+-- the pieces from number `from` on, where there are `count`
+abbrev pub later : List ℕ → ℕ → ℕ → List (List ℕ)
+later edges from count = piecesFrom edges from (count - from)
+
+unfoldable pub putPiece : List ℕ → ℕ → ℕ → ℕ → ℕ → List ℕ
+putPiece edges k x y z = set (set (set edges (3 * k) x) (3 * k + 1) y) (3 * k + 2) z
+
+-- the last piece in the place of piece b
+abbrev pub moved : List ℕ → ℕ → ℕ → List ℕ
+moved edges b last = putPiece edges b (getD edges (3 * last) 0) (getD edges (3 * last + 1) 0) (getD edges (3 * last + 2) 0)
+
+-- ---- the eights
+
+-- digit g of a word
+abbrev pub digit : ℕ → ℕ → ℕ
+digit word g = word / 2 ^ g % 2
+
+-- point v stands in the eight of piece k
+abbrev pub Shown : List ℕ → ℕ → ℕ → Type 0
+Shown eights k v = digit (getD eights v 0) (k / 8) ≡ 1
+
+unfoldable pub show : List ℕ → ℕ → ℕ → List ℕ
+show eights v k = set eights v (bitOr (getD eights v 0) (2 ^ (k / 8)))
+
+-- where the three edges of piece k begin
+abbrev pub shows : List ℕ → ℕ → ℕ → ℕ → ℕ → List ℕ
+shows eights k x y z = show (show (show eights (startOf x) k) (startOf y) k) (startOf z) k
+
+-- ---- what is known of them
+
+-- each edge of piece k ends where the next begins, and each of its points shows its eight
+pub record Piece (edges eights : List ℕ) (k : ℕ) : Type 0 where
+  pub first : endOf (getD edges (3 * k) 0) ≡ startOf (getD edges (3 * k + 1) 0)
+  pub second : endOf (getD edges (3 * k + 1) 0) ≡ startOf (getD edges (3 * k + 2) 0)
+  pub third : endOf (getD edges (3 * k + 2) 0) ≡ startOf (getD edges (3 * k) 0)
+  pub shown : Each (Shown eights k) (pieceAt edges k)
+
+-- its points are below 512
+pub record Low (edges : List ℕ) (k : ℕ) : Type 0 where
+  pub first : startOf (getD edges (3 * k) 0) < 512
+  pub second : startOf (getD edges (3 * k + 1) 0) < 512
+  pub third : startOf (getD edges (3 * k + 2) 0) < 512
+
+-- of `count` pieces, those from number `from` on
+pub record Lie (edges eights : List ℕ) (from count : ℕ) : Type 0 where
+  pub edges-size : length edges ≡ 1536
+  pub eights-size : length eights ≡ 512
+  pub few : count ≤ 510
+  pub each : (k : ℕ) → from ≤ k → k < count → Piece edges eights k
+
+-- of the 24 edges of eight g, none from piece b on is the one that is looked for
+pub record Behind (edges : List ℕ) (want count g b : ℕ) : Type 0 where
+  pub not-at : (i : ℕ) → 24 * g ≤ i → i < 24 * g + 24 → i < 3 * count → 3 * b ≤ i → getD edges i 0 ≡ want → ⊥
+
+-- the mate of the edge s to e among the pieces from number `from` on: where it stands, and its third corner; the last piece then moves into its place
+unfoldable pub Mated : List ℕ → ℕ → ℕ → ℕ → ℕ → Mate → Type 0
+unfolding mate piecesFrom putPiece
+Mated edges from count e s Nobody = mate e s [] (later edges from count) ≡ none
+Mated edges from count e s (Is piece third) =
+    (from ≤ piece) × (piece < count)
+    × (mate e s [] (later edges from count) ≡ some (record { piece = third ∷ []; others = later (moved edges piece (count - 1)) from (count - 1) }))

@@ -22,6 +22,14 @@ pub mod Choosing
 pub mod Stuck
 pub mod Merges
 pub mod Pieces
+pub mod QueueSlots
+pub mod Queues
+pub mod QueueMates
+pub mod QueueSteps
+pub mod QueueLinks
+pub mod QueueArrays
+pub mod QueueWindow
+pub mod QueueTurns
 pub mod Measures
 pub mod Outline
 pub mod Layouts

@@ -45,12 +45,12 @@ pub record Picked (b : List ℕ) (l m : List (List ℕ)) : Type 0 where
   pub now : m ≡ front ++ lastFirst back
 
 -- m's piece follows e, s in a piece of l
-record Mated (e s : ℕ) (l : List (List ℕ)) (m : Part) : Type 0 where
-  mated : List ℕ
-  rotated : Rotated mated (e ∷ s ∷ m .piece)
-  picked : Picked mated l (m .others)
+pub record Mated (e s : ℕ) (l : List (List ℕ)) (m : Part) : Type 0 where
+  pub mated : List ℕ
+  pub rotated : Rotated mated (e ∷ s ∷ m .piece)
+  pub picked : Picked mated l (m .others)
 
-mated-in : (e s : ℕ) (passed l : List (List ℕ)) (m : Part) → mate e s passed l ≡ some m → Mated e s (passed ++ l) m
+pub mated-in : (e s : ℕ) (passed l : List (List ℕ)) (m : Part) → mate e s passed l ≡ some m → Mated e s (passed ++ l) m
 unfolding mate
 mated-in e s passed [] m h = impossible (cc)
 mated-in e s passed (b ∷ more) m h = go (mated-in e s (passed ++ b ∷ []) more m) (first (follows e s) (rotations b)) refl

@@ -7,6 +7,7 @@ pub mod Ear
 pub mod Cut
 pub mod Choosing
 pub mod Merge
+pub mod MergeQueue
 pub mod Steps
 pub mod Layout
 pub mod Refusals

@@ -21,7 +21,7 @@ merge-requires : tie.Need-merge-requires
 merge-requires c κs =
     let p = passed c in
     let r = in-range _ _ _ _ (sym (p .before .refusal .ensures) ∙ p .if1 .left) in
-    (record { on-grid = r .outlines .on-grid; below = r .below }, ((r .whole, omega (arith, r .whole, r .few)), (r .fits, r .fits-lengths)))
+    ((record { on-grid = r .outlines .on-grid; below = r .below }, r .outlines .at-most), ((r .whole, omega (arith, r .whole, r .few)), (r .fits, r .fits-lengths)))
 
 -- where the merge was made, from where its answer is given
 abbrev merged-to : tie.After-slice-known4 → tie.After-merge
