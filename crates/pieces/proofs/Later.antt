@@ -13,7 +13,7 @@ use lib.Seq.{getD-set-same, getD-set-other, getD-take, ext-getD}
 use Rattle.algebra.specs.Lists.{Each, end, _&_}
 use Rattle.algebra.proofs.Lists.{each-imp}
 use Rattle.pieces.specs.Pieces.{startOf, endOf, pieceAt, piecesFrom, later, putPiece, moved, Shown, show, shows, Piece, Low, Lie}
-use Rattle.pieces.proofs.Digits.{or-digit-l, or-digit-r, one-digit}
+use Rattle.algebra.proofs.Bits.{has-left, has-right, has-one}
 
 -- ---- as a list
 
@@ -99,14 +99,14 @@ module _ (eights : List ℕ) (v k : ℕ) where
     show-same = getD-set-same eights v (bitOr (getD eights v 0) (2 ^ (k / 8))) 0 fits
 
     show-new : Shown (show eights v k) k v
-    show-new = rw show-same (or-digit-r (getD eights v 0) (2 ^ (k / 8)) (k / 8) (one-digit (k / 8)))
+    show-new = rw show-same (has-right (getD eights v 0) (2 ^ (k / 8)) (k / 8) (has-one (k / 8)))
 
     show-kept : (j w : ℕ) → Shown eights j w → Shown (show eights v k) j w
     unfolding show
     show-kept j w h = go (ℕ-discrete w v)
       where
         go : Dec (w ≡ v) → Shown (set eights v (bitOr (getD eights v 0) (2 ^ (k / 8)))) j w
-        go (yes q) = rw (q, getD-set-same eights v (bitOr (getD eights v 0) (2 ^ (k / 8))) 0 fits) (or-digit-l (getD eights v 0) (2 ^ (k / 8)) (j / 8) (rw q at h))
+        go (yes q) = rw (q, getD-set-same eights v (bitOr (getD eights v 0) (2 ^ (k / 8))) 0 fits) (has-left (getD eights v 0) (2 ^ (k / 8)) (j / 8) (rw q at h))
         go (no q) = rw (getD-set-other eights v w (bitOr (getD eights v 0) (2 ^ (k / 8))) 0 q) h
 
 module _ (eights : List ℕ) (k x y z : ℕ) where

@@ -1,4 +1,3 @@
-pub mod Digits
 pub mod Later
 pub mod Reading
 pub mod Searching

@@ -19,10 +19,11 @@ use Rattle.algebra.proofs.Equal.{eqb-same, eqb-true, and-true-l, and-true-r}
 use Rattle.rules.specs.Merge.{follows, mate}
 use Rattle.rules.proofs.Queues.{Apart}
 use Rattle.rules.proofs.QueueMates.{runs, in-triangle, mate-nowhere, mate-at}
-use Rattle.pieces.specs.Pieces.{edgeOf, startOf, endOf, pieceAt, later, moved, digit, Shown, Piece, Lie, Behind, Mated}
+use Rattle.pieces.specs.Pieces.{edgeOf, startOf, endOf, pieceAt, later, moved, Shown, Piece, Lie, Behind, Mated}
 use Rattle.pieces.specs.declared.Mate.{Mate}
 use Rattle.pieces.specs.declared.Mate.the-variants.{Nobody, Is}
-use Rattle.pieces.proofs.Digits.{and-digit, none-left, skipped-digit, trailing-below}
+use Rattle.algebra.specs.Bits.{Has}
+use Rattle.algebra.proofs.Bits.{has-both, none-left, skipped-bit, trailing-below}
 use Rattle.pieces.proofs.Later.{length-from, from-at, moved-is}
 
 -- of the edges of the later pieces, none before place n is the one that is looked for
@@ -105,22 +106,22 @@ module _ {edges eights : List ℕ} {from count e s : ℕ} (asked : Asked edges e
   abbrev both : ℕ
   both = bitAnd (getD eights e 0) (getD eights s 0)
 
-  both-shown : (k x y : ℕ) → Shown eights k x → Shown eights k y → (edge : ℕ) → startOf edge ≡ x → endOf edge ≡ y → edge ≡ edgeOf e s → digit both (k / 8) ≡ 1
+  both-shown : (k x y : ℕ) → Shown eights k x → Shown eights k y → (edge : ℕ) → startOf edge ≡ x → endOf edge ≡ y → edge ≡ edgeOf e s → Has both (k / 8)
   both-shown k x y p q edge is-x is-y is =
       let a : x ≡ e = omega arith in
       let b : y ≡ s = omega arith in
-      and-digit (getD eights e 0) (getD eights s 0) (k / 8) (rw a at p) (rw b at q)
+      has-both (getD eights e 0) (getD eights s 0) (k / 8) (rw a at p) (rw b at q)
 
-  edge-shown : (k r : ℕ) → Piece edges eights k → r < 3 → getD edges (3 * k + r) 0 ≡ edgeOf e s → digit both (k / 8) ≡ 1
+  edge-shown : (k r : ℕ) → Piece edges eights k → r < 3 → getD edges (3 * k + r) 0 ≡ edgeOf e s → Has both (k / 8)
   edge-shown k r p h is = go (p .shown) r h is
     where
-      go : Each (Shown eights k) (pieceAt edges k) → (r : ℕ) → r < 3 → getD edges (3 * k + r) 0 ≡ edgeOf e s → digit both (k / 8) ≡ 1
+      go : Each (Shown eights k) (pieceAt edges k) → (r : ℕ) → r < 3 → getD edges (3 * k + r) 0 ≡ edgeOf e s → Has both (k / 8)
       go (x & y & z & end) zero h is = let w : 3 * k + 0 ≡ 3 * k = omega arith in both-shown k _ _ x y (getD edges (3 * k) 0) refl (p .first) (rw w at is)
       go (x & y & z & end) (suc zero) h is = both-shown k _ _ y z (getD edges (3 * k + 1) 0) refl (p .second) is
       go (x & y & z & end) (suc (suc zero)) h is = both-shown k _ _ z x (getD edges (3 * k + 2) 0) refl (p .third) is
       go (x & y & z & end) (suc (suc (suc r))) h is = absurd (omega arith)
 
-  eight-shown : (i : ℕ) → 3 * from ≤ i → i < 3 * count → getD edges i 0 ≡ edgeOf e s → digit both (i / 24) ≡ 1
+  eight-shown : (i : ℕ) → 3 * from ≤ i → i < 3 * count → getD edges i 0 ≡ edgeOf e s → Has both (i / 24)
   eight-shown i h l is =
       let w : 3 * (i / 3) + i % 3 ≡ i = omega arith in
       let v : i / 3 / 8 ≡ i / 24 = omega arith in
@@ -130,7 +131,7 @@ module _ {edges eights : List ℕ} {from count e s : ℕ} (asked : Asked edges e
   passed-skip g p = record { not-at = λ i h l k is. go i h l k is (ℕ-discrete (min g (i / 24)) g) }
     where
       go : (i : ℕ) → 3 * from ≤ i → i < 3 * count → i < 24 * (g + trailingZeros 64 (both / 2 ^ g)) → getD edges i 0 ≡ edgeOf e s → Dec (min g (i / 24) ≡ g) → ⊥
-      go i h l k is (yes q) = omega (arith, eight-shown i h l is, skipped-digit both g (i / 24) (omega arith) (omega arith))
+      go i h l k is (yes q) = omega (arith, eight-shown i h l is, skipped-bit both g (i / 24) (omega arith) (omega arith))
       go i h l k is (no q) = p .not-at i h l (omega arith) is
 
   passed-all : (g : ℕ) → both / 2 ^ g ≡ 0 → Passed edges (edgeOf e s) from count (24 * g) → (i : ℕ) → 3 * from ≤ i → i < 3 * count → getD edges i 0 ≡ edgeOf e s → ⊥

@@ -4,6 +4,7 @@ use mathlib.Core.Path.{_≡_}
 use mathlib.Core.List.{List, [], _∷_}
 use mathlib.Core.Option.{none, some}
 use lib.Bits.{bitOr}
+use Rattle.algebra.specs.Bits.{Has}
 use lib.ListN.{length, getD, set}
 use Rattle.algebra.specs.Lists.{Each}
 use Rattle.rules.specs.Merge.{mate}
@@ -45,13 +46,9 @@ moved edges b last = putPiece edges b (getD edges (3 * last) 0) (getD edges (3 *
 
 -- ---- the eights
 
--- digit g of a word
-abbrev pub digit : ℕ → ℕ → ℕ
-digit word g = word / 2 ^ g % 2
-
 -- point v stands in the eight of piece k
 abbrev pub Shown : List ℕ → ℕ → ℕ → Type 0
-Shown eights k v = digit (getD eights v 0) (k / 8) ≡ 1
+Shown eights k v = Has (getD eights v 0) (k / 8)
 
 unfoldable pub show : List ℕ → ℕ → ℕ → List ℕ
 show eights v k = set eights v (bitOr (getD eights v 0) (2 ^ (k / 8)))

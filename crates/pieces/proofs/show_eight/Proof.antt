@@ -6,7 +6,7 @@ use denote.Ref.{now}
 use lib.Bits.{bitOr}
 use lib.ListN.{getD, set}
 use Rattle.pieces.specs.Pieces.{show}
-use Rattle.pieces.proofs.Digits.{one-shifted}
+use Rattle.algebra.proofs.Bits.{one-shifted}
 use borrow.Author.Needs.{needs}
 use Rattle.pieces.proofs.show_eight.Statement.{statement}
 use Rattle.pieces.proofs.show_eight.Tie as tie
