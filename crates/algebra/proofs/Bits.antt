@@ -1,8 +1,8 @@
 -- Which bits are set: of a power of two, of what two numbers have both or have together, and below the highest.
-use Prim.Native.Nat.{ℕ, suc, _+_, _*_, _-_, _/_, _%_, _^_, _≤_, _<_, max}
+use Prim.Native.Nat.{ℕ, _+_, _*_, _-_, _/_, _%_, _^_, _≤_, _<_}
 use native.Mathlib.Omega.{arith}
 use native.Mathlib.Nat.{one-mul, div-eq-of-lt, max-eq-left, lt-of-not-le}
-use mathlib.Core.Path.{_≡_, sym, ap, _∙_}
+use mathlib.Core.Path.{_≡_, ap, _∙_}
 use lib.Dec.{lit<}
 use lib.Bits.{bitAnd, bitOr, and-shr, or-shr, and-step, or-step, or-comm}
 use lib.Pow.{pow-mono, shl-shr, shl-exact, field, mod-mod-pow}

@@ -6,7 +6,7 @@ ghost use Prim.Native.Nat.{ℕ, _+_, _*_, _-_, _/_, _<_, _≤_};
 ghost use lib.Ieee.{isNan, nan};
 ghost use lib.ListN.{length, getD, replicate, set};
 ghost use Rattle.rules.specs.Cut.{nothing, better};
-ghost use Rattle.winners.specs.Keys.{Nobody, toEar, fromEar, keyOf, earIn, Proper, Fair, entryIn, BetterOf, Beside, Tree, Leaves, LeafSame, LeafSet, Power, rootOf};
+ghost use Rattle.winners.specs.Keys.{Nobody, toEar, fromEar, keyOf, earIn, Proper, Fair, BetterOf, Beside, Tree, Leaves, LeafSame, LeafSet, Power, rootOf};
 
 // A corner is either no ear, or an ear that carries its pointiness.
 pub enum Ear {
