@@ -5,7 +5,7 @@ use borrow.Author.Needs.{needs}
 use mathlib.Core.Path.{_≡_, ap, sym, _∙_}
 use mathlib.Core.Bool.{true}
 use mathlib.Core.List.{List, [], _∷_}
-use lib.ListN.{length, length-set}
+use lib.ListN.{length, take, length-set}
 use lib.Seq.{length-take-le}
 use denote.Ref.{now}
 use Rattle.algebra.specs.Rings.{Corner}
@@ -152,6 +152,9 @@ final c =
 whole : (c : tie.After-put2 Inv-loop μ-loop) → length (c .put2 .last .0) ≡ mostIndices
 whole c = ap length (c .put2 .ensures) ∙ simp length-set (loop-left (lowest (c .before)) .loop .inv .size)
 
+copied-length : (c : tie.After-put2 Inv-loop μ-loop) → length (take (loop-left (lowest (c .before)) .loop .k + 3) (c .put2 .last .0)) ≡ loop-left (lowest (c .before)) .loop .k + 3
+copied-length c = length-take-le _ _ (omega (arith, final (lowest (c .before)) .room, whole c))
+
 -- ---- what is to be shown
 
 zeros-requires : tie.Need-zeros-requires Inv-loop μ-loop
@@ -262,17 +265,13 @@ array-share-prefix-triangles : tie.Need-array-share-prefix-triangles Inv-loop μ
 array-share-prefix-triangles c = omega (arith, final (lowest (c .before)) .room, whole c)
 
 slice-aggregate-copy : tie.Need-slice-aggregate-copy Inv-loop μ-loop
-slice-aggregate-copy c =
-    let w = c .before in
-    sym (length-take-le (loop-left (lowest (w .before)) .loop .k + 3) _ (omega (arith, final (lowest (w .before)) .room, whole w)))
+slice-aggregate-copy c = omega (arith, copied-length (c .before))
 
 copy-requires : tie.Need-copy-requires Inv-loop μ-loop
 copy-requires c κs =
     let w = c .before .before in
-    let f = final (lowest (w .before)) in
     let l = loop-left (lowest (w .before)) in
-    let fits = length-take-le (l .loop .k + 3) (w .put2 .last .0) (omega (arith, f .room, whole w)) in
-    omega (arith, fits, f .three, l .loop .inv .count, entry l .pre .1 .1)
+    omega (arith, copied-length w, final (lowest (w .before)) .three, l .loop .inv .count, entry l .pre .1 .1)
 
 sub-result : tie.Need-sub-result Inv-loop μ-loop
 sub-result c = omega (arith, entry (loop-left (last-lowest (c .before .before))) .pre .1 .1 .0 .0)
