@@ -1,5 +1,5 @@
 -- Which bits are set: of a power of two, of what two numbers have both or have together, below the highest, and from the lowest on.
-use Prim.Native.Nat.{ℕ, zero, suc, _+_, _*_, _-_, _/_, _%_, _^_, _≤_, _<_, max}
+use Prim.Native.Nat.{ℕ, zero, suc, _+_, _*_, _-_, _/_, _%_, _^_, _≤_, _<_}
 use native.Mathlib.Omega.{arith}
 use native.Mathlib.Nat.{pow-suc, zero-div, one-mul, div-eq-of-lt, max-eq-left, lt-of-not-le}
 use mathlib.Core.Path.{_≡_, refl, sym, ap, _∙_}

@@ -5,12 +5,11 @@ use mathlib.Core.Bool.{Bool, true, false, not, _&&_, _||_, or-true}
 use mathlib.Core.List.{[], _∷_}
 use lib.IntN.{ℤ, pos, _+ℤ_, _-ℤ_, _*ℤ_, +ℤ-idr, zero-*ℤ, *ℤ-zero}
 use Rattle.algebra.proofs.Integers.{*ℤ-pos1}
-use lib.Signed.{ltZ, leZ, _≤ℤ_, _<ℤ_}
+use lib.Signed.{ltZ, _≤ℤ_, _<ℤ_}
 use Rattle.algebra.specs.Reify.{reify}
 use Rattle.algebra.proofs.Solve.{ring}
 use Rattle.algebra.proofs.Order.{lin, at+, *ℤ-cancel-≤, *ℤ-mono, ≡→≤ℤ, ≤ℤ-antisym, sub→≡ℤ, <ℤ→sub}
-use Rattle.algebra.proofs.Equal.{impossible, T→true}
-use Rattle.rules.specs.Plane.{Pt, same, minus, cross, turn, left}
+use Rattle.rules.specs.Plane.{Pt, same, turn, left}
 use Rattle.rules.specs.Ear.{blocks}
 use Rattle.blocking.specs.ByTurns.{blocksByTurns, Apart, leftOf, rightOf, under, over}
 use Rattle.rules.proofs.Points.{equal→same, same→equal}
@@ -18,7 +17,7 @@ use Rattle.rules.proofs.Turns.{coordinates, turn-rotates}
 
 -- ---- the identities
 
-pub turns-add : (a b c q : Pt) → turn a b q +ℤ (turn b c q +ℤ turn c a q) ≡ turn a b c
+turns-add : (a b c q : Pt) → turn a b q +ℤ (turn b c q +ℤ turn c a q) ≡ turn a b c
 turns-add a b c q = ring (coordinates (a ∷ b ∷ c ∷ q ∷ [])) (search reify depth 12) (search reify depth 12) refl
 
 weighs-x : (a b c q : Pt) → turn a b q *ℤ (c .x -ℤ q .x) +ℤ (turn b c q *ℤ (a .x -ℤ q .x) +ℤ turn c a q *ℤ (b .x -ℤ q .x)) ≡ pos 0

@@ -6,7 +6,7 @@ use mathlib.Core.Path.{_≡_, refl, sym, ap, _∙_, subst}
 use mathlib.Core.Bool.{true, false}
 use mathlib.Core.List.{List}
 use mathlib.Core.Logic.{_⊎_, inl, inr}
-use lib.Bits.{bitAnd, bitOr}
+use lib.Bits.{bitOr}
 use lib.Dec.{T, lit<, lit≤}
 use lib.IntN.{ℤ, pos, negsuc, natAbs, _-ℤ_}
 use lib.Ieee.{Float, fin, binary32, sub, ofInt, round, inUnsigned, toUnsigned}
@@ -46,7 +46,7 @@ edge-far z h = let l = small-low z h in let w : pos 0 ≤ℤ (pos 1024 -ℤ z) =
 far-low : (z : ℤ) → natAbs z ≤ gridEdge → natAbs (pos 1024 -ℤ z) ≤ 2048
 far-low z h = omega (arith, natAbs-sub (pos 1024) z)
 
-pub strip-low : (z : ℤ) → natAbs z ≤ gridEdge → fromEdge z < 65
+strip-low : (z : ℤ) → natAbs z ≤ gridEdge → fromEdge z < 65
 strip-low z h = omega (arith, far-low z h)
 
 -- who is nearer to the edge has no later strip
@@ -99,29 +99,25 @@ back-within {x} {z} w =
       small = small-back z (w .small);
     }
 
+abbrev pub back : Float → Float
+back v = sub binary32 (fin false 0 (pos 0)) v
+
 -- where its mask stands
-placed :
-    (x : Float) (z : ℤ) (side : ℕ) → Within gridEdge x z → side < 4
-    → T (inUnsigned binary32 32 (sub binary32 (fin false 1 (pos 10)) x))
+abbrev pub Placed : Float → ℤ → ℕ → Type 0
+Placed x z side =
+    T (inUnsigned binary32 32 (sub binary32 (fin false 1 (pos 10)) x))
     × (4 * (toUnsigned 32 (sub binary32 (fin false 1 (pos 10)) x) / 32) + side ≡ 4 * fromEdge z + side)
     × (4 * (toUnsigned 32 (sub binary32 (fin false 1 (pos 10)) x) / 32) + side < 260)
+
+placed : (x : Float) (z : ℤ) (side : ℕ) → Within gridEdge x z → side < 4 → Placed x z side
 placed x z side w h = let e = edge-is w .1 in (edge-is w .0, rw e, rw e (omega (arith, strip-low z (w .small))))
 
 module _ (v : Float) (side : ℕ) (on : onGrid v ≡ true) (low : side < 4) where
-  pub upper-place :
-      T (inUnsigned binary32 32 (sub binary32 (fin false 1 (pos 10)) v))
-      × (4 * (toUnsigned 32 (sub binary32 (fin false 1 (pos 10)) v) / 32) + side ≡ 4 * fromEdge (wholeOf v) + side)
-      × (4 * (toUnsigned 32 (sub binary32 (fin false 1 (pos 10)) v) / 32) + side < 260)
+  pub upper-place : Placed v (wholeOf v) side
   upper-place = placed v (wholeOf v) side (on-within v on) low
 
-  abbrev back : Float
-  back = sub binary32 (fin false 0 (pos 0)) v
-
-  pub lower-place :
-      T (inUnsigned binary32 32 (sub binary32 (fin false 1 (pos 10)) back))
-      × (4 * (toUnsigned 32 (sub binary32 (fin false 1 (pos 10)) back) / 32) + side ≡ 4 * fromEdge (pos 0 -ℤ wholeOf v) + side)
-      × (4 * (toUnsigned 32 (sub binary32 (fin false 1 (pos 10)) back) / 32) + side < 260)
-  lower-place = placed back (pos 0 -ℤ wholeOf v) side (back-within (on-within v on)) low
+  pub lower-place : Placed (back v) (pos 0 -ℤ wholeOf v) side
+  lower-place = placed (back v) (pos 0 -ℤ wholeOf v) side (back-within (on-within v on)) low
 
 -- ---- the masks as they are filled
 

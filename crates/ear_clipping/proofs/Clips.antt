@@ -58,12 +58,12 @@ module _ (ps : List Pt) (proper : (c : Corner ℕ) → Proper (earOf ps c)) (n m
         chosen-in ps (λ c. (c .at < n) × (activeOf s (c .at) ≡ true)) at (taken .1) .0
 
     module _ (s' : Vertices) (clipped : Clipped ps n m s i s') where
-      pub cut-some : (left : ℕ) → 3 < left → cutRing (left - 3) ps (ringIn n s) ≡ write (cornerAt s i) (cutRing (left - 1 - 3) ps (ringIn n s'))
+      cut-some : (left : ℕ) → 3 < left → cutRing (left - 3) ps (ringIn n s) ≡ write (cornerAt s i) (cutRing (left - 1 - 3) ps (ringIn n s'))
       cut-some left l =
           let q : left - 3 ≡ suc (left - 1 - 3) = omega arith in
           rw (q, clipped .ring) (cut-more (left - 1 - 3) (best (cornerAt s i) (taken .0)) (taken .1))
 
-      pub ring-less : length (ringIn n s) ≡ suc (length (ringIn n s'))
+      ring-less : length (ringIn n s) ≡ suc (length (ringIn n s'))
       ring-less = rw (clipped .ring) (without-length i (once (activeOf s) i 0 n (omega arith) (omega (arith, picked .0)) (picked .1)))
 
   -- the last three: the lowest active number

@@ -1,11 +1,11 @@
 -- What a ring by its links and lengths says of each of its corners; and that an ear's key stands for it.
 use Prim.Native.Nat.{ℕ, _≤_, _<_}
 use native.Mathlib.Omega.{arith}
-use mathlib.Core.Path.{_≡_, refl, sym, ap, _∙_}
-use mathlib.Core.Bool.{Bool, true, false}
+use mathlib.Core.Path.{_≡_, refl, ap, _∙_}
+use mathlib.Core.Bool.{true, false}
 use mathlib.Core.List.{List}
-use lib.ListN.{length, getD}
-use lib.Ieee.{Float, nan}
+use lib.ListN.{length}
+use lib.Ieee.{Float}
 use Rattle.algebra.specs.Rings.{Corner}
 use Rattle.rules.specs.Grid.{pointsOf}
 use Rattle.rules.specs.Plane.{Pt, point}

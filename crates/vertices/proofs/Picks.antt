@@ -1,10 +1,10 @@
 -- What the tree's root says is the choice among the ring's corners.
-use Prim.Native.Nat.{ℕ, zero, suc, _+_, _-_, _≤_, _<_}
+use Prim.Native.Nat.{ℕ, zero, suc, _+_, _≤_, _<_}
 use native.Mathlib.Omega.{arith}
-use mathlib.Core.Path.{_≡_, refl, ap, sym, _∙_}
+use mathlib.Core.Path.{_≡_, refl, ap, _∙_}
 use mathlib.Core.Bool.{Bool, true, false, cond}
 use mathlib.Core.Logic.{_⊎_, inl, inr}
-use mathlib.Core.List.{List, [], _∷_, map}
+use mathlib.Core.List.{List, [], _∷_}
 use lib.Ieee.{Float, nan}
 use lib.ListN.{getD}
 use Rattle.algebra.specs.Lists.{Each, end, _&_}
@@ -14,12 +14,12 @@ use Rattle.rules.specs.Ear as rules
 use Rattle.rules.specs.Cut.{Choice, nothing, best, better, choose}
 use Rattle.winners.specs.Winners as W
 use Rattle.winners.specs.Winners.{choiceOf, Kept, kept, left-out}
-use Rattle.winners.specs.Keys.{Proper, fromEar, earIn, decode, entryIn, winnerIn, pickOf, rootOf, Tree}
+use Rattle.winners.specs.Keys.{Proper, earIn, decode, entryIn, winnerIn, pickOf, rootOf}
 use Rattle.winners.specs.declared.Pick.{Pick}
 use Rattle.winners.specs.declared.Pick.the-variants.{Nothing, At}
 use Rattle.winners.proofs.Roots.{root-of-arrays}
 use Rattle.vertices.specs.Ears.{earOf}
-use Rattle.vertices.specs.Vertices.{Vertices, prevOf, nextOf, activeOf, linkedCorner, cornerAt, those, ringIn, earEntry, Stands}
+use Rattle.vertices.specs.Vertices.{Vertices, prevOf, nextOf, activeOf, cornerAt, those, ringIn, earEntry, Stands}
 use Rattle.vertices.proofs.Links.{corners-map}
 
 module _ (t : ℕ → Choice ℕ) (o : ℕ → Bool) (n top : ℕ) (off : (i : ℕ) → i < top → (n ≤ i) ⊎ (o i ≡ false) → t i ≡ nothing) where
@@ -28,7 +28,7 @@ module _ (t : ℕ → Choice ℕ) (o : ℕ → Bool) (n top : ℕ) (off : (i : �
   beyond k (suc m) e h = left-out (off k (omega arith) (inl h)) (beyond (suc k) m (omega arith) (omega arith))
 
   -- the ring is the numbers that are on
-  pub ring-kept : (k l m : ℕ) → k + l ≡ n → k + m ≡ top → l ≤ m → Kept t k m (those o k l)
+  ring-kept : (k l m : ℕ) → k + l ≡ n → k + m ≡ top → l ≤ m → Kept t k m (those o k l)
   unfolding those
   ring-kept k zero m e f h = beyond k m f (omega arith)
   ring-kept k (suc l) zero e f h = absurd (omega arith)

@@ -16,14 +16,13 @@ use Rattle.algebra.specs.Rings.{Corner}
 use Rattle.algebra.proofs.Equal.{impossible}
 use Rattle.rules.specs.Plane.{Pt}
 use Rattle.rules.specs.Cut.{nothing}
-use Rattle.winners.specs.Keys.{lowest, keyOf, Proper, Fair, none, Nobody, decode, entryIn, winnerIn, Power, Leaves, Tree, LeafSame}
+use Rattle.winners.specs.Keys.{keyOf, Proper, Fair, none, Nobody, decode, entryIn, winnerIn, Power, Leaves, Tree, LeafSame}
 use Rattle.winners.specs.declared.Ear.{Ear}
 use Rattle.winners.specs.declared.Entry.{Entry}
 use Rattle.winners.proofs.Nodes.{proper-fair, set-same, set-other}
 use Rattle.winners.proofs.Roots.{decode-lowest}
-use Rattle.winners.proofs.Sizes.{power-small}
 use Rattle.vertices.specs.Ears.{earOf}
-use Rattle.vertices.specs.Vertices.{state, place, on, those, linkedCorner, edgeOf, earEntry, Follows, Way, Links, ringIn, Sized, Ringed, Eared, Stands, AtCorner, Linked, Measured, Updated}
+use Rattle.vertices.specs.Vertices.{state, place, on, those, linkedCorner, edgeOf, earEntry, Follows, Way, Links, ringIn, Ringed, Stands, AtCorner, Linked, Measured, Updated}
 use Rattle.vertices.proofs.Corners.{at-corner}
 
 lt-or-le : (j n : ℕ) → (j < n) ⊎ (n ≤ j)
@@ -140,7 +139,7 @@ module _ (n : ℕ) (p q : List ℕ) (a : List Bool) (h : Linked n n p q a) where
   links-all : (m : ℕ) → suc m ≡ n → Links (place p) (place q) (countFrom 0 (suc m))
   links-all m e = up 0 m (omega arith)
 
-  pub prevs : (j : ℕ) → j < n → place p j < n
+  prevs : (j : ℕ) → j < n → place p j < n
   prevs zero l = rw (h .close .1) (omega arith)
   prevs (suc j) l = rw (h .edges j l .1) (omega arith)
 
@@ -158,7 +157,7 @@ module _ (n : ℕ) (p q : List ℕ) (a : List Bool) (h : Linked n n p q a) where
     ways : Links (place p) (place q) (countFrom 0 n)
     ways = let e : suc (n - 1) ≡ n = omega arith in subst (λ (x : ℕ). Links (place p) (place q) (countFrom 0 x)) e (links-all (n - 1) e)
 
-    pub first-ringed : Ringed ps n (state p q a r v u)
+    first-ringed : Ringed ps n (state p q a r v u)
     first-ringed = record {
       sized = record { prev = h .prev-size; next = h .next-size; active = h .active-size; reciprocals = w .long };
       links = rw ring ways;

@@ -2,10 +2,10 @@
 use Prim.Native.Nat.{ℕ, _+_, _≤_, _<_}
 use native.Mathlib.Omega.{arith}
 use native.Mathlib.Decide.{ℕ-discrete}
-use mathlib.Core.Path.{_≡_, refl, ap, ap₂, sym, _∙_}
+use mathlib.Core.Path.{_≡_, ap, ap₂, sym, _∙_}
 use mathlib.Core.Logic.{_⊎_, inl, inr}
 use mathlib.Core.Bool.{Bool, true, false}
-use mathlib.Core.List.{List, [], _∷_}
+use mathlib.Core.List.{List}
 use lib.ListN.{length, getD, set, length-set}
 use lib.Ieee.{Float, nan}
 use lib.Seq.{getD-set-same, getD-set-other}
@@ -16,12 +16,12 @@ use Rattle.winners.specs.declared.Ear.{Ear}
 use Rattle.winners.proofs.Roots.{decode-lowest}
 use Rattle.vertices.specs.Ears.{earOf}
 use Rattle.vertices.specs.Vertices.{Vertices, state, place, prevOf, nextOf, activeOf, linkedCorner, cornerAt, edgeOf, earEntry, Links, ringIn, Sized, Ringed, Eared, AtCorner, Clipped}
-use Rattle.vertices.proofs.Links.{Once, Unlinked, unlinks, ends, near, not-own}
-use Rattle.vertices.proofs.Actives.{once, those-without, each-on}
+use Rattle.vertices.proofs.Links.{Once, Unlinked, unlinks, not-own}
+use Rattle.vertices.proofs.Actives.{once, those-without}
 use Rattle.vertices.proofs.Corners.{neighbours-on, linked-back, at-corner}
 
 -- the arrays without corner i, with a tree v, w
-abbrev pub cutAt : List Pt → Vertices → ℕ → List Float → List ℕ → Vertices
+abbrev cutAt : List Pt → Vertices → ℕ → List Float → List ℕ → Vertices
 cutAt ps s i v w = record {
   prev = set (s .prev) (nextOf s i) (prevOf s i);
   next = set (s .next) (prevOf s i) (nextOf s i);
@@ -49,7 +49,7 @@ module _ (ps : List Pt) (n : ℕ) (s : Vertices) (h : Ringed ps n s) (small : n 
   others : (j : ℕ) → (j ≡ i → ⊥) → activeOf s' j ≡ activeOf s j
   others j q = getD-set-other (s .active) i j false false q
 
-  pub cut-ring : ringIn n s' ≡ without i (ringIn n s)
+  cut-ring : ringIn n s' ≡ without i (ringIn n s)
   cut-ring = those-without (activeOf s) (activeOf s') i off others 0 n (omega arith) (omega arith) oi
 
   isOnce : Once i (ringIn n s)
@@ -58,7 +58,7 @@ module _ (ps : List Pt) (n : ℕ) (s : Vertices) (h : Ringed ps n s) (small : n 
   cut-links : Links (prevOf s') (nextOf s') (ringIn n s')
   cut-links = let both = linked-back ps n s h i low oi in rw cut-ring (unlinks (prevOf s) (nextOf s) (prevOf s') (nextOf s') i links' (both .0) (both .1) isOnce (h .links))
 
-  pub stays : (j : ℕ) → activeOf s' j ≡ true → (j ≡ i → ⊥) × (activeOf s j ≡ true)
+  stays : (j : ℕ) → activeOf s' j ≡ true → (j ≡ i → ⊥) × (activeOf s j ≡ true)
   stays j e = go (ℕ-discrete j i)
     where
       go : Dec (j ≡ i) → (j ≡ i → ⊥) × (activeOf s j ≡ true)
@@ -103,7 +103,7 @@ module _ (ps : List Pt) (n : ℕ) (s : Vertices) (h : Ringed ps n s) (small : n 
           ∙ h .lengths j l (stays j e .1)
           ∙ ap (edgeOf ps j) (sym (links' .nexts j q))
 
-  pub cut-ringed : Ringed ps n s'
+  cut-ringed : Ringed ps n s'
   cut-ringed = record { sized = cut-sized; links = cut-links; within = cut-within; lengths = cut-lengths }
 
   -- where the ring has another corner, both neighbours are left
@@ -117,7 +117,7 @@ module _ (ps : List Pt) (n : ℕ) (s : Vertices) (h : Ringed ps n s) (small : n 
     after-left : activeOf s' (nextOf s i) ≡ true
     after-left = others (nextOf s i) (λ q. not-own (prevOf s) (nextOf s) i isOnce two (h .links) (own q)) ∙ neighbours-on ps n s h i low oi .1
 
-    pub both-left : (activeOf s' (prevOf s i) ≡ true) × (activeOf s' (nextOf s i) ≡ true)
+    both-left : (activeOf s' (prevOf s i) ≡ true) × (activeOf s' (nextOf s i) ≡ true)
     both-left = (before-left, after-left)
 
   -- ---- the tree: the ears of the two neighbours are set, and corner i is nobody
@@ -168,10 +168,10 @@ module _ (ps : List Pt) (n : ℕ) (s : Vertices) (h : Ringed ps n s) (small : n 
             ∙ set-before .others (m + j) (omega arith) (apart j (prevOf s i) (not-on (prevOf s i) (in-ring .0) (on .0) f)))
             ∙ old .nobody j l f
 
-    pub cut-eared : Eared ps n m s'
+    cut-eared : Eared ps n m s'
     cut-eared = record { power = old .power; room = old .room; tree = tree; ears = cut-ears; nobody = cut-nobody }
 
-    pub is-clipped : Clipped ps n m s i s'
+    is-clipped : Clipped ps n m s i s'
     is-clipped = record { stands = record { ringed = cut-ringed; eared = cut-eared }; ring = cut-ring }
 
 -- ---- the code's steps, array by array: b and f are the corners before and after i

@@ -5,7 +5,7 @@ use mathlib.Core.Logic.{_⊎_}
 use mathlib.Core.Bool.{Bool, true, false, cond}
 use mathlib.Core.List.{List, [], _∷_}
 use lib.Ieee.{Float, nan}
-use lib.ListN.{length, getD, set}
+use lib.ListN.{length, getD}
 use Rattle.algebra.specs.Rings.{Corner}
 use Rattle.rules.specs.Cut.{nothing, without}
 use Rattle.rules.specs.Plane.{Pt, minus, point}

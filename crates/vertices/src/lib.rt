@@ -18,7 +18,7 @@ ghost use Rattle.rules.specs.Plane.{minus, point};
 ghost use Rattle.rules.specs.Root.{reciprocal};
 ghost use Rattle.rules.specs.Refusals.{offGrid};
 ghost use Rattle.blocking.specs.Outlined.{Outlined};
-ghost use Rattle.winners.specs.Keys.{Nobody, Power, Tree};
+ghost use Rattle.winners.specs.Keys.{Nobody, Power};
 ghost use Rattle.vertices.specs.Ears.{earOf};
 ghost use Rattle.vertices.specs.Vertices.{state, place, on, linkedCorner, AtCorner, Clipped, Sized, Stands, Linked, Measured, Updated, lowestFrom, ringIn};
 

@@ -10,7 +10,7 @@ use lib.ListN.{length, getD, set, length-set, replicate, length-replicate, getD-
 use lib.Seq.{getD-set-same, getD-set-other}
 use lib.Ieee.{Float, nan, binary32, lt, eq, le, isNan, fits, ofBits, toBits}
 use lib.Ieee.Bits.{ofBits-toBits}
-use Rattle.algebra.proofs.Equal.{eqb-true, or-false, impossible}
+use Rattle.algebra.proofs.Equal.{eqb-true, or-false}
 use Rattle.winners.specs.Tree as tree
 use Rattle.winners.specs.Tree.{Right, StandsBut, Differs}
 use Rattle.rules.specs.Ear as rules
@@ -19,7 +19,7 @@ use Rattle.winners.specs.Winners.{later}
 use Rattle.winners.specs.Keys.{lowest, toEar, fromEar, keyOf, earIn, Proper, no, pointed, Fair, none, some, decode, entryIn, winnerIn, Nobody, BetterOf, Beside, Numbers, Leaves, Tree, LeafSame, LeafSet}
 use Rattle.winners.specs.declared.Ear.{Ear}
 use Rattle.winners.specs.declared.Entry.{Entry}
-use Rattle.winners.proofs.Repairs.{opposite, eqb-apart, unchanged, set-right, leaf-set, parent-set, parent-same, root-set}
+use Rattle.winners.proofs.Repairs.{eqb-apart, unchanged, set-right, leaf-set, parent-set, parent-same, root-set}
 
 -- ---- the better of two entries
 
@@ -83,10 +83,10 @@ fair-ear (some {v} n h) = subst (λ (t : Bool). Proper (fromEar (cond t rules.no
 -- ---- one entry set
 
 module _ (val : List Float) (win : List ℕ) (k : ℕ) (e : Entry) where
-  abbrev pub val' : List Float
+  abbrev val' : List Float
   val' = set val k (e .key)
 
-  abbrev pub win' : List ℕ
+  abbrev win' : List ℕ
   win' = set win k (e .corner)
 
   pub set-same : k < length val → k < length win → entryIn val' win' k ≡ e

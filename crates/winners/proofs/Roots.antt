@@ -12,14 +12,14 @@ use Rattle.algebra.proofs.Lists.{each-imp}
 use Rattle.rules.specs.Plane.{Pt}
 use Rattle.rules.specs.Ear as rules
 use Rattle.rules.specs.Ear.{none, pointed, ear}
-use Rattle.rules.specs.Cut.{nothing, best, better, choose}
+use Rattle.rules.specs.Cut.{nothing, better, choose}
 use Rattle.winners.specs.Winners.{leaf, Number, no-one, number, choiceOf, Kept}
-use Rattle.winners.specs.Keys.{lowest, fromEar, keyOf, earIn, Proper, no, decode, entryIn, winnerIn, Tree}
+use Rattle.winners.specs.Keys.{lowest, fromEar, keyOf, earIn, Proper, decode, entryIn, winnerIn, Tree}
 use Rattle.winners.specs.Keys as keys
 use Rattle.winners.specs.declared.Entry.{Entry}
 use Rattle.winners.proofs.Winning.{root-chosen}
 
-pub decode-number : (e : Entry) → isNan (e .key) ≡ false → Number (decode e)
+decode-number : (e : Entry) → isNan (e .key) ≡ false → Number (decode e)
 unfolding decode earIn better
 decode-number e h = go (eq (e .key) lowest)
   where
@@ -33,7 +33,7 @@ unfolding decode earIn better eq
 decode-lowest i = refl
 
 -- an ear's key stands for it
-pub key-stands : (x : rules.Ear) → Proper (fromEar x) → earIn (keyOf (fromEar x)) ≡ x
+key-stands : (x : rules.Ear) → Proper (fromEar x) → earIn (keyOf (fromEar x)) ≡ x
 unfolding earIn eq
 key-stands none p = refl
 key-stands (pointed f) (keys.pointed n h) = ap (λ (t : Bool). cond t none (pointed f)) (not-lowest f h)

@@ -16,16 +16,17 @@ use Rattle.rules.proofs.FloatOrder.{le-total, le-trans}
 use Rattle.winners.specs.Tree.{Stands, together}
 use Rattle.winners.specs.Winners as W
 use Rattle.winners.specs.Winners.{later, leaf, Number, no-one, number, choiceOf, Kept, kept, left-out}
+use Rattle.winners.proofs.Repairs.{opposite}
 use Rattle.winners.proofs.Levels.{good-together, root-is}
 
 -- ---- the better of three
 
-pub later-nobody : (a : Choice ℕ) → later nothing a ≡ a
+later-nobody : (a : Choice ℕ) → later nothing a ≡ a
 unfolding later better
 later-nobody nothing = refl
 later-nobody (best i f) = refl
 
-pub later-number : (a b : Choice ℕ) → Number a → Number b → Number (later a b)
+later-number : (a b : Choice ℕ) → Number a → Number b → Number (later a b)
 unfolding later better
 later-number a nothing p q = p
 later-number nothing (best i f) p q = q
@@ -43,13 +44,7 @@ three : (i j k : ℕ) (f g h : Float) → isNan f ≡ false → isNan g ≡ fals
 three i j k f g h p q = go (le f g) refl (le g h) refl
   where
     not-less : (t : Bool) → le f h ≡ t → le f g ≡ false → le g h ≡ false → t ≡ false
-    not-less true a b c = impossible (two (le-trans g f h (le-total f g p q b) a) c)
-      where
-        two : le g h ≡ true → le g h ≡ false → _≡_ {A = ℕ} 0 1
-        two x y = flags (le g h) x y
-          where
-            flags : (b : Bool) → b ≡ true → b ≡ false → _≡_ {A = ℕ} 0 1
-            flags b x y = cc
+    not-less true a b c = impossible (opposite (le g h) (le-trans g f h (le-total f g p q b) a) c)
     not-less false a b c = refl
 
     go : (s : Bool) → le f g ≡ s → (t : Bool) → le g h ≡ t → later (later (best i f) (best j g)) (best k h) ≡ later (best i f) (later (best j g) (best k h))
@@ -65,7 +60,7 @@ three i j k f g h p q = go (le f g) refl (le g h) refl
         ap (λ (x : Choice ℕ). later x (best k h)) (later-both i j f g false a) ∙ later-both i k f h false (not-less (le f h) refl a b)
         ∙ sym (later-both i j f g false a) ∙ ap (λ (x : Choice ℕ). later (best i f) x) (sym (later-both j k g h false b))
 
-pub later-assoc : (a b c : Choice ℕ) → Number a → Number b → Number c → later (later a b) c ≡ later a (later b c)
+later-assoc : (a b c : Choice ℕ) → Number a → Number b → Number c → later (later a b) c ≡ later a (later b c)
 unfolding later better
 later-assoc a b nothing p q r = refl
 later-assoc a nothing (best k h) p q r = refl

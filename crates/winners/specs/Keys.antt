@@ -5,7 +5,7 @@ use mathlib.Core.Logic.{_⊎_}
 use mathlib.Core.Bool.{true, false, cond}
 use mathlib.Core.List.{List}
 use lib.IntN.{pos}
-use lib.ListN.{length, getD, set}
+use lib.ListN.{length, getD}
 use lib.Ieee.{Float, nan, fin, eq, le, isNan}
 use Rattle.rules.specs.Ear as rules
 use Rattle.rules.specs.Cut.{Choice, nothing, better}

@@ -6,7 +6,7 @@ ghost use Prim.Native.Nat.{ℕ, _+_, _*_, _-_, _/_, _<_, _≤_};
 ghost use lib.Ieee.{isNan, nan};
 ghost use lib.ListN.{length, getD, replicate, set};
 ghost use Rattle.rules.specs.Cut.{nothing, better};
-ghost use Rattle.winners.specs.Keys.{Nobody, toEar, fromEar, keyOf, earIn, Proper, Fair, entryIn, BetterOf, Beside, Tree, Leaves, LeafSame, LeafSet, Power, rootOf};
+ghost use Rattle.winners.specs.Keys.{Nobody, toEar, fromEar, keyOf, earIn, Proper, Fair, BetterOf, Beside, Tree, Leaves, LeafSame, LeafSet, Power, rootOf};
 
 // A corner is either no ear, or an ear that carries its pointiness.
 pub enum Ear {
@@ -99,7 +99,7 @@ pub fn no_corners() -> [u16; 1024]
     [0u16; 1024]
 }
 
-// The number of leaves for n corners: the least power of two that is at least n.
+// The number of leaves for n corners: a power of two, and enough for them.
 pub fn leaves_for(n: usize) -> usize
     requires { ⌜ n ≤ 512 ⌝ }
     ensures { λ r. ⌜ Power r × (n ≤ r) ⌝ }

@@ -1,7 +1,6 @@
 -- `blocked` meets its contract. The invariant: the eights that are no longer in the mask were looked at.
-use Prim.Native.Nat.{ℕ, _^_, _%_, _<_}
+use Prim.Native.Nat.{_^_, _%_, _<_}
 use native.Mathlib.Omega.{arith}
-use borrow.Author.Needs.{needs}
 use native.Mathlib.Nat.{mod-lt, lt-of-lt-of-le}
 use mathlib.Core.Path.{_≡_}
 use denote.Ref.{now}
@@ -10,18 +9,16 @@ use Rattle.algebra.proofs.Bits.{one-shifted}
 use Rattle.blocking.proofs.Answers.{Looked, looked-more, none-there, hit, free}
 use Rattle.blocking.proofs.blocked.Statement.{statement}
 use Rattle.blocking.proofs.blocked.Tie as tie
-use Rattle.blocking.proofs.blocked.Reads as reads
-use Rattle.blocking.proofs.blocked.Lts as lts
-use Rattle.blocking.proofs.eight_block.Reads as eight-block-reads
-use Rattle.blocking.proofs.highest.Reads as highest-reads
-use Rattle.blocking.proofs.sides_at.Reads as sides-at-reads
-use Rattle.blocking.proofs.strips.candidates.Reads as candidates-reads
 
 abbrev Inv-loop : tie.InvT-loop
 Inv-loop xs ys strips t mask₀ mask = Looked t xs ys mask₀ mask
 
 abbrev μ-loop : tie.MeasureT-loop
 μ-loop xs ys strips t mask₀ mask = mask
+
+-- the loop, from where the highest bit is known
+abbrev looking : tie.After-highest Inv-loop μ-loop → tie.At-loop Inv-loop μ-loop
+looking c = c .before .before
 
 sides-at-requires : tie.Need-sides-at-requires Inv-loop μ-loop
 sides-at-requires c κs = tt
@@ -43,11 +40,13 @@ eight-block-requires c κs = omega (arith, c .highest .ensures .0)
 
 returns : tie.Need-returns Inv-loop μ-loop
 returns c =
-    let s = c .before .before .before .before .before .before .before in
-    let p = s .pre in
     let h = c .before .before .highest in
+    let l = looking (c .before .before) in
+    let sides = l .before .before in
+    let s = sides .before in
+    let p = s .pre in
     λ ps o.
-    hit ps _ _ _ o (s .args .p1) (s .args .p) (s .args .p3) (p .0) (p .1 .0) (p .1 .1 .0) (p .1 .1 .1) _ (c .before .before .before .before .before .before .sides-at .ensures)
+    hit ps _ _ _ o (s .args .p1) (s .args .p) (s .args .p3) (p .0) (p .1 .0) (p .1 .1 .0) (p .1 .1 .1) _ (sides .sides-at .ensures)
     (h .result) (h .ensures .0) (c .before .eight-block .ensures) (c .if1 .taken)
 
 shl-mask : tie.Need-shl-mask Inv-loop μ-loop
@@ -59,23 +58,27 @@ rem-mask c = rw (one-shifted _ (c .before .before .highest .ensures .0)) (pow-po
 loop-less : tie.Need-loop-less Inv-loop μ-loop
 loop-less c =
     let h = c .before .before .highest in
-    let low : c .before .before .before .before .loop .mask % 2 ^ h .result < 2 ^ h .result = mod-lt _ (pow-pos (h .result)) in
+    let low : looking (c .before .before) .loop .mask % 2 ^ h .result < 2 ^ h .result = mod-lt _ (pow-pos (h .result)) in
     rw (one-shifted (h .result) (h .ensures .0)) (lt-of-lt-of-le low (h .ensures .1))
 
 loop-again : tie.Need-loop-again Inv-loop μ-loop
 loop-again c =
-    let s = c .before .before .before .before .before .before .before in
     let h = c .before .before .highest in
-    rw (one-shifted (h .result) (h .ensures .0)) (looked-more _ (now (s .args .xs)) (now (s .args .ys)) _ _ (h .result) (h .ensures .2) (c .before .eight-block .ensures) (c .if1 .left) (c .before .before .before .before .loop .inv))
+    let l = looking (c .before .before) in
+    let s = l .before .before .before in
+    rw (one-shifted (h .result) (h .ensures .0))
+    (looked-more _ (now (s .args .xs)) (now (s .args .ys)) _ _ (h .result) (h .ensures .2) (c .before .eight-block .ensures) (c .if1 .left) (l .loop .inv))
 
 returns-2 : tie.Need-returns-2 Inv-loop μ-loop
 returns-2 c =
-    let s = c .before .before .before .before in
+    let l = c .before in
+    let sides = l .before .before in
+    let s = sides .before in
     let p = s .pre in
-    let none : c .before .loop .mask ≡ 0 = omega arith in
+    let none : l .loop .mask ≡ 0 = omega arith in
     λ ps o.
-    free ps _ _ _ o (s .args .p1) (s .args .p) (s .args .p3) (p .0) (p .1 .0) (p .1 .1 .0) (p .1 .1 .1) _ (c .before .before .before .sides-at .ensures)
-    _ (c .before .before .candidates .ensures) (λ g h. c .before .loop .inv g h (λ q. none-there g (rw none at q)))
+    free ps _ _ _ o (s .args .p1) (s .args .p) (s .args .p3) (p .0) (p .1 .0) (p .1 .1 .0) (p .1 .1 .1) _ (sides .sides-at .ensures)
+    _ (l .before .candidates .ensures) (λ g h. l .loop .inv g h (λ q. none-there g (rw none at q)))
 
 pub blocked-spec : {M : Type 1} → statement M
 blocked-spec =

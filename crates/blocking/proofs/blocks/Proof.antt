@@ -26,7 +26,11 @@ joined h i j k l = cc
 
 returns : tie.Need-returns
 unfolding blocksOf
-returns c = joined (c .either2 .ensures) (c .before .either .ensures) (c .before .before .before .before .beyond .ensures) (c .before .before .before .beyond2 .ensures) (c .before .before .beyond3 .ensures)
+returns c =
+    let third = c .before .before in
+    let second = third .before in
+    let first = second .before in
+    joined (c .either2 .ensures) (c .before .either .ensures) (first .beyond .ensures) (second .beyond2 .ensures) (third .beyond3 .ensures)
 
 pub blocks-spec : {M : Type 1} → statement M
 blocks-spec =

@@ -46,7 +46,10 @@ loop-less : tie.Need-loop-less Inv-loop μ-loop
 loop-less c = omega arith
 
 loop-again : tie.Need-loop-again Inv-loop μ-loop
-loop-again c = (omega arith, next _ _ 8 _ (c .before .before .before .before .loop-test .taken) (c .before .before .before .before .before .loop .hit) (c .before .before .before .before .before .loop .inv .1) (c .before .blocks2 .ensures) (c .either .ensures))
+loop-again c =
+    let test = c .before .before .before .before in
+    let l = test .before .loop in
+    (omega arith, next _ _ 8 _ (test .loop-test .taken) (l .hit) (l .inv .1) (c .before .blocks2 .ensures) (c .either .ensures))
 
 returns : tie.Need-returns Inv-loop μ-loop
 returns c = last _ _ 8 _ (c .loop-test .left) (c .before .loop .inv .1)

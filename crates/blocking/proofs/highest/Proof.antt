@@ -1,13 +1,11 @@
 -- `highest` meets its contract.
-use Prim.Native.Nat.{ℕ, suc, _+_, _-_, _^_, _≤_, _<_}
+use Prim.Native.Nat.{ℕ, _+_, _-_, _^_, _≤_, _<_}
 use native.Mathlib.Omega.{arith}
 use native.Mathlib.Numerals.{add-one}
 use mathlib.Core.Path.{_≡_}
 use lib.Count.{leadingZeros, leading-top, leading-le}
 use Rattle.blocking.proofs.highest.Statement.{statement}
 use Rattle.blocking.proofs.highest.Tie as tie
-use Rattle.blocking.proofs.highest.Reads as reads
-use Rattle.blocking.proofs.highest.Lts as lts
 
 top : (m : ℕ) → 0 < m → m < 2 ^ 64 → (63 - leadingZeros 64 m < 64) × (2 ^ (63 - leadingZeros 64 m) ≤ m) × (m < 2 ^ (63 - leadingZeros 64 m + 1))
 top m p h =

@@ -10,14 +10,6 @@ use Rattle.blocking.proofs.Flats.{none-flat}
 use borrow.Author.Needs.{needs}
 use Rattle.ear_clipping.proofs.cut.Statement.{statement}
 use Rattle.ear_clipping.proofs.cut.Tie as tie
-use Rattle.ear_clipping.proofs.cut.Reads as reads
-use Rattle.ear_clipping.proofs.cut.Lts as lts
-use Rattle.blocking.proofs.flat.filled.Reads as filled-reads
-use Rattle.blocking.proofs.flat.flatten.Reads as flatten-reads
-use Rattle.blocking.proofs.strips.empty.Reads as empty-reads
-use Rattle.blocking.proofs.strips.fill.Reads as fill-reads
-use Rattle.ear_clipping.proofs.cut_ring.Reads as cut-ring-reads
-use Rattle.grid.proofs.point_at.Reads as point-at-reads
 
 -- the outline has some points, and few enough
 some : (s : tie.Start) → (0 < length (pointsOf (now (s .args .coords)))) × (length (pointsOf (now (s .args .coords))) ≤ mostPoints)
@@ -34,10 +26,12 @@ filled-requires-2 c κs = search needs
 
 flatten-requires : tie.Need-flatten-requires
 flatten-requires c κs =
-    let first = c .before .before .before .before in
+    let ys = c .before .before in
+    let xs = ys .before in
+    let first = xs .before in
     let s = first .before .before .before in
     let p = first .point-at .ensures in
-    (s .pre .0, (some s .1, none-flat _ _ _ _ (p .0) (p .1) (c .before .before .before .filled .ensures) (c .before .before .filled2 .ensures)))
+    (s .pre .0, (some s .1, none-flat _ _ _ _ (p .0) (p .1) (xs .filled .ensures) (ys .filled2 .ensures)))
 
 empty-requires : tie.Need-empty-requires
 empty-requires c κs = search needs

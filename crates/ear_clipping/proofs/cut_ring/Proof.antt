@@ -5,7 +5,7 @@ use borrow.Author.Needs.{needs}
 use mathlib.Core.Path.{_≡_, ap, sym, _∙_}
 use mathlib.Core.Bool.{true}
 use mathlib.Core.List.{List, [], _∷_}
-use lib.ListN.{length, length-set}
+use lib.ListN.{length, take, length-set}
 use lib.Seq.{length-take-le}
 use denote.Ref.{now}
 use Rattle.algebra.specs.Rings.{Corner}
@@ -72,24 +72,27 @@ module _
 abbrev leaves : tie.After-win Inv-loop μ-loop → tie.After-leaves-for Inv-loop μ-loop
 leaves c = c .before .before .before .before .before .before
 
-abbrev ears : tie.After-win Inv-loop μ-loop → tie.After-no-ears Inv-loop μ-loop
-ears c = leaves c .before .before
+abbrev made : tie.After-win Inv-loop μ-loop → tie.After-no-corners Inv-loop μ-loop
+made c = leaves c .before
 
-abbrev flags : tie.After-win Inv-loop μ-loop → tie.After-flags Inv-loop μ-loop
+abbrev ears : tie.After-no-corners Inv-loop μ-loop → tie.After-no-ears Inv-loop μ-loop
+ears c = c .before
+
+abbrev flags : tie.After-no-corners Inv-loop μ-loop → tie.After-flags Inv-loop μ-loop
 flags c = ears c .before .before
 
-abbrev links : tie.After-win Inv-loop μ-loop → tie.After-links Inv-loop μ-loop
+abbrev links : tie.After-no-corners Inv-loop μ-loop → tie.After-links Inv-loop μ-loop
 links c = flags c .before .before
 
-abbrev zeros : tie.After-win Inv-loop μ-loop → tie.After-zeros Inv-loop μ-loop
+abbrev zeros : tie.After-no-corners Inv-loop μ-loop → tie.After-zeros Inv-loop μ-loop
 zeros c = links c .before
 
-abbrev start : tie.After-win Inv-loop μ-loop → tie.Start Inv-loop μ-loop
+abbrev start : tie.After-no-corners Inv-loop μ-loop → tie.Start Inv-loop μ-loop
 start c = zeros c .before .before .before
 
 -- the loop: its entry, that the outline is small, that ears stand for themselves, and the state that a turn finds
 abbrev entry : tie.At-loop Inv-loop μ-loop → tie.Start Inv-loop μ-loop
-entry c = start (c .before .before)
+entry c = start (made (c .before .before))
 
 small : (c : tie.At-loop Inv-loop μ-loop) → entry c .args .n ≤ mostPoints
 small c = entry c .pre .1 .1 .0 .1
@@ -142,11 +145,15 @@ final :
     → Final (pointsOf (now (entry (loop-left c) .args .coords))) (entry (loop-left c) .args .n) (found (loop-left c)) (loop-left c .loop .k) (loop-left c .loop .left) (c .lowest .result)
 final c =
     let l = loop-left c in
-    at-lowest _ (on-grid l) _ _ _ _ _ _ (l .loop .inv) (small l) _ (c .before .before .loop-test .left) (c .lowest .ensures)
+    let end : l .loop .left ≤ 3 = omega (arith, c .before .before .loop-test .left) in
+    at-lowest _ (on-grid l) _ _ _ _ _ _ (l .loop .inv) (small l) _ end (c .lowest .ensures)
 
 -- all that was written fits
 whole : (c : tie.After-put2 Inv-loop μ-loop) → length (c .put2 .last .0) ≡ mostIndices
 whole c = ap length (c .put2 .ensures) ∙ simp length-set (loop-left (lowest (c .before)) .loop .inv .size)
+
+copied-length : (c : tie.After-put2 Inv-loop μ-loop) → length (take (loop-left (lowest (c .before)) .loop .k + 3) (c .put2 .last .0)) ≡ loop-left (lowest (c .before)) .loop .k + 3
+copied-length c = length-take-le _ _ (omega (arith, final (lowest (c .before)) .room, whole c))
 
 -- ---- what is to be shown
 
@@ -172,11 +179,12 @@ no-corners-requires : tie.Need-no-corners-requires Inv-loop μ-loop
 no-corners-requires c κs = search needs
 
 leaves-for-requires : tie.Need-leaves-for-requires Inv-loop μ-loop
-leaves-for-requires c κs = c .before .before .before .before .before .before .before .before .before .pre .1 .1 .0 .1
+leaves-for-requires c κs = start c .pre .1 .1 .0 .1
 
 start-requires : tie.Need-start-requires Inv-loop μ-loop
 start-requires c κs =
-    let p = start c .pre in (
+    let a = made c in
+    let p = start a .pre in (
       p .0,
       (
         p .1 .0,
@@ -185,8 +193,8 @@ start-requires c κs =
           (
             leaves c .leaves-for .ensures,
             (
-              record { prev = links c .links .ensures; next = flags c .before .links2 .ensures; active = flags c .flags .ensures; reciprocals = ears c .before .values .ensures },
-              (ears c .no-ears .ensures, leaves c .before .no-corners .ensures),
+              record { prev = links a .links .ensures; next = flags a .before .links2 .ensures; active = flags a .flags .ensures; reciprocals = ears a .before .values .ensures },
+              (ears a .no-ears .ensures, a .no-corners .ensures),
             ),
           ),
         ),
@@ -195,8 +203,9 @@ start-requires c κs =
 
 loop-holds : tie.Need-loop-holds Inv-loop μ-loop
 loop-holds c =
-    let p = start (c .before) .pre .1 .1 .0 in
-    inv-first _ _ _ _ _ (p .0) (p .2) (zeros (c .before) .zeros .ensures .0) (c .start .ensures .0) (c .start .ensures .1)
+    let a = made (c .before) in
+    let p = start a .pre .1 .1 .0 in
+    inv-first _ _ _ _ _ (p .0) (p .2) (zeros a .zeros .ensures .0) (c .start .ensures .0) (c .start .ensures .1)
 
 pointiest-requires : tie.Need-pointiest-requires Inv-loop μ-loop
 pointiest-requires c κs = search needs
@@ -215,7 +224,7 @@ returns c =
     at-nothing _ (on-grid l) _ _ _ _ _ _ (l .loop .inv) (small l) _ (t .loop-test .taken) (p .pointiest .ensures) (c .enum-told .given .1)
 
 put-requires : tie.Need-put-requires Inv-loop μ-loop
-put-requires c κs = let t = turn (told c) in (t .room, t .low)
+put-requires c κs = let t = turn (told c) in (t .room, omega (arith, t .low))
 
 clip-requires : tie.Need-clip-requires Inv-loop μ-loop
 clip-requires c κs =
@@ -256,17 +265,13 @@ array-share-prefix-triangles : tie.Need-array-share-prefix-triangles Inv-loop μ
 array-share-prefix-triangles c = omega (arith, final (lowest (c .before)) .room, whole c)
 
 slice-aggregate-copy : tie.Need-slice-aggregate-copy Inv-loop μ-loop
-slice-aggregate-copy c =
-    let w = c .before in
-    sym (length-take-le (loop-left (lowest (w .before)) .loop .k + 3) _ (omega (arith, final (lowest (w .before)) .room, whole w)))
+slice-aggregate-copy c = omega (arith, copied-length (c .before))
 
 copy-requires : tie.Need-copy-requires Inv-loop μ-loop
 copy-requires c κs =
     let w = c .before .before in
-    let f = final (lowest (w .before)) in
     let l = loop-left (lowest (w .before)) in
-    let fits = length-take-le (l .loop .k + 3) (w .put2 .last .0) (omega (arith, f .room, whole w)) in
-    omega (arith, fits, f .three, l .loop .inv .count, entry l .pre .1 .1)
+    omega (arith, copied-length w, final (lowest (w .before)) .three, l .loop .inv .count, entry l .pre .1 .1)
 
 sub-result : tie.Need-sub-result Inv-loop μ-loop
 sub-result c = omega (arith, entry (loop-left (last-lowest (c .before .before))) .pre .1 .1 .0 .0)

@@ -1,5 +1,5 @@
 -- `clip` meets its contract.
-use Prim.Native.Nat.{_≤_, _<_}
+use Prim.Native.Nat.{_<_}
 use native.Mathlib.Omega.{arith}
 use denote.Ref.{now}
 use Rattle.rules.specs.Grid.{pointsOf}
@@ -10,13 +10,6 @@ use Rattle.vertices.proofs.Steps.{at-before, at-after, clip-is}
 use borrow.Author.Needs.{needs}
 use Rattle.vertices.proofs.clip.Statement.{statement}
 use Rattle.vertices.proofs.clip.Tie as tie
-use Rattle.vertices.proofs.clip.Reads as reads
-use Rattle.vertices.proofs.clip.Lts as lts
-use Rattle.vertices.proofs.ear_at.Reads as ear-at-reads
-use Rattle.vertices.proofs.measure.Reads as measure-reads
-use Rattle.vertices.proofs.unlink.Reads as unlink-reads
-use Rattle.vertices.proofs.wide.Reads as wide-reads
-use Rattle.winners.proofs.set_ear.Reads as set-ear-reads
 
 -- ---- the places of the code, each from a later one
 
@@ -51,6 +44,14 @@ lent s = let a = s .args in state (now (a .prev)) (now (a .next)) (now (a .activ
 -- the neighbours are corners of the outline
 near : (s : tie.Start) → (place (now (s .args .prev)) (s .args .i) < s .args .n) × (place (now (s .args .next)) (s .args .i) < s .args .n)
 near s = let p = s .pre .1 .1 in p .1 .1 .1 .ringed .within (s .args .i) (p .1 .0 .0)
+
+-- the cut corner and its neighbours have leaves, by the numbers that the code reads
+leaves : (c : tie.After-wide2) → (c .before .before .wide .result < start c .args .m) × (c .wide2 .result < start c .args .m) × (start c .args .i < start c .args .m)
+leaves c =
+    let w = near (start c) in
+    let p = start c .pre .1 .1 .1 in
+    let room = p .1 .1 .eared .room in
+    (omega (arith, w .0, room, c .before .before .wide .ensures), omega (arith, w .1, room, c .wide2 .ensures), omega (arith, p .0 .0, room))
 
 mul-wide : tie.Need-mul-wide
 mul-wide c = search needs
@@ -120,8 +121,7 @@ set-ear-requires c κs =
     let first = before-worked (c .before .before) in
     let read = after-read (unlinked (measured first)) in
     let s = start read in
-    let e = s .pre .1 .1 .1 .1 .1 .eared in
-    (e .tree, (omega (arith, near s .0, e .room, read .before .before .wide .ensures), rw (first .ear-at .ensures) (proper _ (s .pre .0) _)))
+    (s .pre .1 .1 .1 .1 .1 .eared .tree, (omega (arith, leaves read), rw (first .ear-at .ensures) (proper _ (s .pre .0) _)))
 
 set-ear-requires-2 : tie.Need-set-ear-requires-2
 set-ear-requires-2 c κs =
@@ -129,15 +129,13 @@ set-ear-requires-2 c κs =
     let second = both-worked set in
     let read = after-read (unlinked (measured (before-worked second))) in
     let s = start read in
-    let e = s .pre .1 .1 .1 .1 .1 .eared in
-    (set .set-ear .ensures .0, (omega (arith, near s .1, e .room, read .wide2 .ensures), rw (second .ear-at2 .ensures) (proper _ (s .pre .0) _)))
+    (set .set-ear .ensures .0, (omega (arith, leaves read), rw (second .ear-at2 .ensures) (proper _ (s .pre .0) _)))
 
 set-ear-requires-3 : tie.Need-set-ear-requires-3
 set-ear-requires-3 c κs =
     let set = c .before .before in
-    let s = start (after-read (unlinked (measured (before-worked (both-worked (before-set set)))))) in
-    let p = s .pre .1 .1 .1 in
-    (set .set-ear2 .ensures .0, (omega (arith, p .0 .0, p .1 .1 .eared .room), no))
+    let read = after-read (unlinked (measured (before-worked (both-worked (before-set set))))) in
+    (set .set-ear2 .ensures .0, (omega (arith, leaves read), no))
 
 returns : tie.Need-returns
 returns c =

@@ -12,10 +12,6 @@ use mathlib.Core.Path.{_∙_}
 use borrow.Author.Needs.{needs}
 use Rattle.vertices.proofs.ear_at.Statement.{statement}
 use Rattle.vertices.proofs.ear_at.Tie as tie
-use Rattle.vertices.proofs.ear_at.Reads as reads
-use Rattle.vertices.proofs.ear_at.Lts as lts
-use Rattle.vertices.proofs.ear.update_vertex.Reads as update-vertex-reads
-use Rattle.vertices.proofs.wide.Reads as wide-reads
 
 -- the ear that was found is that of the linked corner
 found : (ps : List Pt) (p q : List ℕ) (i b f : ℕ) → b ≡ place p i → f ≡ place q i → (e : Ear) → e ≡ earOf ps (record { before = b; at = i; after = f }) → e ≡ earOf ps (linkedCorner (place p) (place q) i)

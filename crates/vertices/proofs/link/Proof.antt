@@ -69,7 +69,10 @@ loop-again : tie.Need-loop-again Inv-loop μ-loop
 loop-again c = (omega arith, omega arith, linked-more _ _ _ _ _ (c .before .before .before .loop .inv .2) (omega arith) (omega arith) (omega arith) _ _ (c .before .narrow2 .ensures) (c .narrow3 .ensures))
 
 returns : tie.Need-returns Inv-loop μ-loop
-returns c = let e : c .before .loop .i ≡ c .before .before .before .args .n = omega arith in rw e at (c .before .loop .inv .2)
+returns c =
+    let l = c .before in
+    let e : l .loop .i ≡ l .before .before .args .n = omega arith in
+    rw e at (l .loop .inv .2)
 
 pub link-spec : {M : Type 1} → statement M
 link-spec =

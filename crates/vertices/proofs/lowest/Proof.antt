@@ -21,7 +21,9 @@ element-copy-out-if1 : tie.Need-element-copy-out-if1 Inv-loop μ-loop
 element-copy-out-if1 c = omega arith
 
 returns : tie.Need-returns Inv-loop μ-loop
-returns c = sym (c .before .before .before .loop .inv .1 ∙ low-more _ _ _ (c .before .before .loop-test .taken) ∙ rw (c .if1 .taken))
+returns c =
+    let test = c .before .before in
+    sym (test .before .loop .inv .1 ∙ low-more _ _ _ (test .loop-test .taken) ∙ rw (c .if1 .taken))
 
 add-i : tie.Need-add-i Inv-loop μ-loop
 add-i c = omega arith
@@ -30,7 +32,9 @@ loop-less : tie.Need-loop-less Inv-loop μ-loop
 loop-less c = omega arith
 
 loop-again : tie.Need-loop-again Inv-loop μ-loop
-loop-again c = (omega arith, c .before .before .before .loop .inv .1 ∙ low-more _ _ _ (c .before .before .loop-test .taken) ∙ rw (c .if1 .left))
+loop-again c =
+    let test = c .before .before in
+    (omega arith, test .before .loop .inv .1 ∙ low-more _ _ _ (test .loop-test .taken) ∙ rw (c .if1 .left))
 
 returns-2 : tie.Need-returns-2 Inv-loop μ-loop
 returns-2 c = sym (c .before .loop .inv .1 ∙ low-end _ _ _ (c .loop-test .left))

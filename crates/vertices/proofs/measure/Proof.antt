@@ -9,16 +9,12 @@ use Rattle.rules.proofs.Coordinates.{point-fits}
 use borrow.Author.Needs.{needs}
 use Rattle.vertices.proofs.measure.Statement.{statement}
 use Rattle.vertices.proofs.measure.Tie as tie
-use Rattle.vertices.proofs.measure.Reads as reads
-use Rattle.vertices.proofs.measure.Lts as lts
-use Rattle.grid.proofs.point_at.Reads as point-at-reads
-use Rattle.root.proofs.reciprocal.Reads as reciprocal-reads
 
 point-at-requires : tie.Need-point-at-requires
 point-at-requires c κs = (c .before .pre .0, point-fits _ _ (c .before .pre .1 .1))
 
 point-at-requires-2 : tie.Need-point-at-requires-2
-point-at-requires-2 c κs = (c .before .before .pre .0, point-fits _ _ (c .before .before .pre .1 .2))
+point-at-requires-2 c κs = let p = c .before .before .pre in (p .0, point-fits _ _ (p .1 .2))
 
 reciprocal-requires : tie.Need-reciprocal-requires
 reciprocal-requires c κs = search needs

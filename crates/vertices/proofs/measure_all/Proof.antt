@@ -2,16 +2,11 @@
 use Prim.Native.Nat.{_-_, _≤_, _<_}
 use mathlib.Core.Path.{_≡_}
 use native.Mathlib.Omega.{arith}
-use borrow.Author.Needs.{needs}
 use Rattle.rules.specs.Grid.{pointsOf}
 use Rattle.vertices.specs.Vertices.{Measured}
 use Rattle.vertices.proofs.Starts.{measured-more}
 use Rattle.vertices.proofs.measure_all.Statement.{statement}
 use Rattle.vertices.proofs.measure_all.Tie as tie
-use Rattle.vertices.proofs.measure_all.Reads as reads
-use Rattle.vertices.proofs.measure_all.Lts as lts
-use Rattle.vertices.proofs.measure.Reads as measure-reads
-use Rattle.vertices.proofs.wide.Reads as wide-reads
 
 abbrev Inv-loop : tie.InvT-loop
 Inv-loop coords n next reciprocals₀ i₀ reciprocals i = (i ≤ n) × Measured (pointsOf coords) i next reciprocals

@@ -7,12 +7,6 @@ use Rattle.vertices.proofs.Starts.{nexts, first-corners, updated-leaves
 use borrow.Author.Needs.{needs}
 use Rattle.vertices.proofs.start.Statement.{statement}
 use Rattle.vertices.proofs.start.Tie as tie
-use Rattle.vertices.proofs.start.Reads as reads
-use Rattle.vertices.proofs.start.Lts as lts
-use Rattle.vertices.proofs.link.Reads as link-reads
-use Rattle.vertices.proofs.measure_all.Reads as measure-all-reads
-use Rattle.vertices.proofs.update_all.Reads as update-all-reads
-use Rattle.winners.proofs.build.Reads as build-reads
 
 -- the places of the code, each from a later one
 abbrev entry : tie.After-link → tie.Start

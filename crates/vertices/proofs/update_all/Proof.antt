@@ -7,10 +7,6 @@ use Rattle.vertices.specs.Vertices.{Updated}
 use Rattle.vertices.proofs.Starts.{none-updated, updated-more}
 use Rattle.vertices.proofs.update_all.Statement.{statement}
 use Rattle.vertices.proofs.update_all.Tie as tie
-use Rattle.vertices.proofs.update_all.Reads as reads
-use Rattle.vertices.proofs.update_all.Lts as lts
-use Rattle.vertices.proofs.ear_at.Reads as ear-at-reads
-use Rattle.winners.proofs.put_leaf.Reads as put-leaf-reads
 
 abbrev Inv-loop : tie.InvT-loop
 Inv-loop coords xs ys strips n m prev next reciprocals val₀ win₀ i₀ val win i = (i ≤ n) × Updated (pointsOf coords) i m prev next val win

@@ -4,9 +4,6 @@ use Rattle.winners.proofs.Nodes.{beside-first, beside-second}
 use borrow.Author.Needs.{needs}
 use Rattle.winners.proofs.beside.Statement.{statement}
 use Rattle.winners.proofs.beside.Tie as tie
-use Rattle.winners.proofs.beside.Reads as reads
-use Rattle.winners.proofs.beside.Lts as lts
-use Rattle.winners.proofs.better_of.Reads as better-of-reads
 
 mul-o : tie.Need-mul-o
 mul-o c = search needs

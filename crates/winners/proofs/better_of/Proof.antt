@@ -1,9 +1,9 @@
 -- `better_of` meets its contract.
 use Prim.Native.Nat.{ℕ}
-use mathlib.Core.Path.{_≡_, refl, sym, ap, ap₂, _∙_}
+use mathlib.Core.Path.{_≡_, refl}
 use mathlib.Core.Bool.{Bool, true, false, cond}
 use Rattle.rules.specs.Ear as rules
-use Rattle.rules.specs.Cut.{Choice, nothing, better}
+use Rattle.rules.specs.Cut.{nothing, better}
 use Rattle.winners.specs.Keys.{toEar, fromEar, earIn, decode, BetterOf}
 use Rattle.winners.specs.declared.Ear.{Ear}
 use Rattle.winners.specs.declared.Entry.{Entry}
@@ -11,10 +11,6 @@ use Rattle.winners.proofs.Nodes.{better-entry, fair-ear, to-from}
 use borrow.Author.Needs.{needs}
 use Rattle.winners.proofs.better_of.Statement.{statement}
 use Rattle.winners.proofs.better_of.Tie as tie
-use Rattle.winners.proofs.better_of.Reads as reads
-use Rattle.winners.proofs.better_of.Lts as lts
-use Rattle.winners.proofs.ear_of.Reads as ear-of-reads
-use Rattle.winners.proofs.takes_later.Reads as takes-later-reads
 
 -- by the ears that the keys stand for
 taken :
@@ -37,14 +33,18 @@ takes-later-requires c κs =
 returns : tie.Need-returns
 returns c =
     let told = c .before in
-    let s = told .before .before .before in
-    taken (s .args .a) (s .args .b) _ (told .before .before .ear-of .result) (told .before .ear-of2 .result) true (told .before .before .ear-of .ensures) (told .before .ear-of2 .ensures) (rw (c .if1 .taken) at (told .takes-later .ensures)) refl
+    let second = told .before in
+    let first = second .before in
+    let s = first .before in
+    taken (s .args .a) (s .args .b) _ (first .ear-of .result) (second .ear-of2 .result) true (first .ear-of .ensures) (second .ear-of2 .ensures) (rw (c .if1 .taken) at (told .takes-later .ensures)) refl
 
 returns-2 : tie.Need-returns-2
 returns-2 c =
     let told = c .before in
-    let s = told .before .before .before in
-    taken (s .args .a) (s .args .b) _ (told .before .before .ear-of .result) (told .before .ear-of2 .result) false (told .before .before .ear-of .ensures) (told .before .ear-of2 .ensures) (rw (c .if1 .left) at (told .takes-later .ensures)) refl
+    let second = told .before in
+    let first = second .before in
+    let s = first .before in
+    taken (s .args .a) (s .args .b) _ (first .ear-of .result) (second .ear-of2 .result) false (first .ear-of .ensures) (second .ear-of2 .ensures) (rw (c .if1 .left) at (told .takes-later .ensures)) refl
 
 pub better-of-spec : {M : Type 1} → statement M
 better-of-spec =

@@ -4,9 +4,6 @@ use native.Mathlib.Omega.{arith}
 use Rattle.winners.proofs.Nodes.{Built, build-start, build-step, build-end, first-child, fair-pair}
 use Rattle.winners.proofs.build.Statement.{statement}
 use Rattle.winners.proofs.build.Tie as tie
-use Rattle.winners.proofs.build.Reads as reads
-use Rattle.winners.proofs.build.Lts as lts
-use Rattle.winners.proofs.beside.Reads as beside-reads
 
 abbrev Inv-loop : tie.InvT-loop
 Inv-loop val₀ win₀ m k₀ val win k = Built val₀ win₀ m val win k
@@ -58,8 +55,9 @@ loop-less c = omega arith
 
 loop-again : tie.Need-loop-again Inv-loop μ-loop
 loop-again c =
-    let l = c .before .before .before .before .before .before .loop in
-    build-step _ _ _ _ _ _ _ (c .before .before .before .before .before .loop-test .taken) (l .inv) (first-child (l .val) (l .win) (l .k - 1) _ (c .beside .ensures))
+    let test = c .before .before .before .before .before in
+    let l = test .before .loop in
+    build-step _ _ _ _ _ _ _ (test .loop-test .taken) (l .inv) (first-child (l .val) (l .win) (l .k - 1) _ (c .beside .ensures))
 
 returns : tie.Need-returns Inv-loop μ-loop
 returns c = (build-end _ _ _ _ _ _ (c .loop-test .left) (c .before .loop .inv), c .before .loop .inv .same)

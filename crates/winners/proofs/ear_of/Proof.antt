@@ -6,8 +6,6 @@ use Rattle.rules.specs.Ear.{none, pointed}
 use Rattle.winners.specs.Keys.{fromEar, earIn}
 use Rattle.winners.proofs.ear_of.Statement.{statement}
 use Rattle.winners.proofs.ear_of.Tie as tie
-use Rattle.winners.proofs.ear_of.Reads as reads
-use Rattle.winners.proofs.ear_of.Lts as lts
 
 returns : tie.Need-returns
 unfolding earIn neg ofBits

@@ -5,8 +5,6 @@ use Rattle.winners.specs.Keys.{keyOf}
 use borrow.Author.Needs.{needs}
 use Rattle.winners.proofs.key_of.Statement.{statement}
 use Rattle.winners.proofs.key_of.Tie as tie
-use Rattle.winners.proofs.key_of.Reads as reads
-use Rattle.winners.proofs.key_of.Lts as lts
 
 enum-told : tie.Need-enum-told
 enum-told c = search needs

@@ -3,10 +3,6 @@ use Rattle.winners.proofs.Nodes.{nobody}
 use borrow.Author.Needs.{needs}
 use Rattle.winners.proofs.no_ears.Statement.{statement}
 use Rattle.winners.proofs.no_ears.Tie as tie
-use Rattle.winners.proofs.no_ears.Reads as reads
-use Rattle.winners.proofs.no_ears.Lts as lts
-use Rattle.winners.proofs.filled.Reads as filled-reads
-use Rattle.winners.proofs.key_of.Reads as key-of-reads
 
 key-of-requires : tie.Need-key-of-requires
 key-of-requires c κs = search needs

@@ -1,6 +1,6 @@
 -- `pointiest` meets its contract.
 use Prim.Native.Nat.{ℕ}
-use mathlib.Core.Path.{_≡_, refl, sym, ap, _∙_}
+use mathlib.Core.Path.{_≡_, sym, ap, _∙_}
 use mathlib.Core.List.{List}
 use lib.ListN.{getD}
 use lib.Ieee.{Float, nan}
@@ -14,10 +14,6 @@ use Rattle.winners.specs.declared.Pick.the-variants.{Nothing, At}
 use borrow.Author.Needs.{needs}
 use Rattle.winners.proofs.pointiest.Statement.{statement}
 use Rattle.winners.proofs.pointiest.Tie as tie
-use Rattle.winners.proofs.pointiest.Reads as reads
-use Rattle.winners.proofs.pointiest.Lts as lts
-use Rattle.winners.proofs.ear_of.Reads as ear-of-reads
-use Rattle.winners.proofs.wide.Reads as wide-reads
 
 module _ (val : List Float) (win : List ℕ) (e : Ear) (h : e ≡ fromEar (earIn (getD val 1 nan))) where
   root : toEar e ≡ earIn (getD val 1 nan)
@@ -51,13 +47,14 @@ wide-requires c κs = search needs
 
 returns : tie.Need-returns
 returns c =
-    let s = c .before .before .before .before .args in
-    none (now (s .val)) (now (s .win)) (c .before .before .ear-of .result) (c .before .before .ear-of .ensures) (c .enum-told .given .1)
+    let told = c .before .before in
+    let s = told .before .before .args in
+    none (now (s .val)) (now (s .win)) (told .ear-of .result) (told .ear-of .ensures) (c .enum-told .given .1)
 
 returns-2 : tie.Need-returns-2
 returns-2 c =
-    let s = c .before .before .before .before .before .before .args in
     let told = c .before .before .before .before in
+    let s = told .before .before .args in
     some (now (s .val)) (now (s .win)) (told .ear-of .result) (told .ear-of .ensures) _ (c .before .before .enum-told2 .given .1) _ (c .wide .ensures)
 
 pub pointiest-spec : {M : Type 1} → statement M

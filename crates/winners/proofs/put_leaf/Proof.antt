@@ -2,10 +2,6 @@
 use borrow.Author.Needs.{needs}
 use Rattle.winners.proofs.put_leaf.Statement.{statement}
 use Rattle.winners.proofs.put_leaf.Tie as tie
-use Rattle.winners.proofs.put_leaf.Reads as reads
-use Rattle.winners.proofs.put_leaf.Lts as lts
-use Rattle.winners.proofs.key_of.Reads as key-of-reads
-use Rattle.winners.proofs.narrow.Reads as narrow-reads
 
 key-of-requires : tie.Need-key-of-requires
 key-of-requires c κs = search needs

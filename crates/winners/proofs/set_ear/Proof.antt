@@ -1,16 +1,10 @@
 -- `set_ear` meets its contract. The invariant: only the parent of k may be wrong, and the best so far is what node k holds.
-use mathlib.Core.Path.{_≡_, refl}
+use mathlib.Core.Path.{_≡_}
 use native.Mathlib.Omega.{arith}
 use Rattle.winners.specs.Keys.{entryIn}
 use Rattle.winners.proofs.Nodes.{Climb, number-children, climb-start, climb-step, climb-same, climb-end, climbed, own-entry, proper-fair, fair-pair}
 use Rattle.winners.proofs.set_ear.Statement.{statement}
 use Rattle.winners.proofs.set_ear.Tie as tie
-use Rattle.winners.proofs.set_ear.Reads as reads
-use Rattle.winners.proofs.set_ear.Lts as lts
-use Rattle.winners.proofs.beside.Reads as beside-reads
-use Rattle.winners.proofs.holds.Reads as holds-reads
-use Rattle.winners.proofs.key_of.Reads as key-of-reads
-use Rattle.winners.proofs.narrow.Reads as narrow-reads
 
 abbrev Inv-loop : tie.InvT-loop
 Inv-loop val₀ win₀ m i k₀ best₀ val win k best = Climb val₀ win₀ m val win k × (best ≡ entryIn val win k)
@@ -67,16 +61,18 @@ element-copy-out-holds-2 c = omega arith
 
 holds-requires : tie.Need-holds-requires Inv-loop μ-loop
 holds-requires c κs =
-    let l = c .before .before .before .before .before .before .loop in
-    number-children _ _ _ _ _ (omega arith) (omega (arith, l .inv .0 .inside)) (l .inv .0 .numbers) (c .before .before .beside .ensures .children (l .inv .1))
+    let b = c .before .before in
+    let l = b .before .before .before .before .loop in
+    number-children _ _ _ _ _ (omega arith) (omega (arith, l .inv .0 .inside)) (l .inv .0 .numbers) (b .beside .ensures .children (l .inv .1))
 
 returns : tie.Need-returns Inv-loop μ-loop
 returns c =
     let w = c .before .before .before .before in
-    let l = w .before .before .before .before .loop in
-    let s = w .before .before .before .before .before .before .before in
-    let narrowed = w .before .before .before .before .before in (
-      climb-same _ _ _ _ _ _ _ (w .before .before .before .loop-test .taken) (l .inv .0) (w .beside .ensures .children (l .inv .1)) (c .before .holds .ensures (c .if1 .taken)),
+    let test = w .before .before .before in
+    let l = test .before .loop in
+    let narrowed = test .before .before in
+    let s = narrowed .before .before in (
+      climb-same _ _ _ _ _ _ _ (test .loop-test .taken) (l .inv .0) (w .beside .ensures .children (l .inv .1)) (c .before .holds .ensures (c .if1 .taken)),
       rw (narrowed .before .key-of .ensures) at (climbed _ _ _ _ _ _ (s .pre .0) (s .pre .1 .0) (narrowed .narrow .ensures) _ _ (l .inv .0 .same)),
     )
 
@@ -98,8 +94,9 @@ loop-less c = omega arith
 loop-again : tie.Need-loop-again Inv-loop μ-loop
 loop-again c =
     let w = c .before .before .before .before in
-    let l = w .before .before .before .before .loop in (
-      climb-step _ _ _ _ _ _ _ (w .before .before .before .loop-test .taken) (l .inv .0) (w .beside .ensures .children (l .inv .1)),
+    let test = w .before .before .before in
+    let l = test .before .loop in (
+      climb-step _ _ _ _ _ _ _ (test .loop-test .taken) (l .inv .0) (w .beside .ensures .children (l .inv .1)),
       own-entry _ _ _ _ _ _ (l .inv .0 .numbers) (omega (arith, l .inv .0 .inside)),
     )
 

@@ -2,7 +2,7 @@
 use Prim.Native.Nat.{ℕ}
 use mathlib.Core.Path.{_≡_, refl, sym, ap, ap₂, _∙_}
 use mathlib.Core.Bool.{Bool, true, false, cond}
-use lib.Ieee.{Float, le}
+use lib.Ieee.{le}
 use Rattle.rules.specs.Cut.{Choice, nothing, better}
 use Rattle.rules.proofs.FloatOrder.{le-total}
 use Rattle.winners.specs.Keys.{lowest, toEar, keyOf, Proper, no, pointed}
@@ -11,9 +11,6 @@ use Rattle.winners.proofs.Nodes.{lowest-number}
 use borrow.Author.Needs.{needs}
 use Rattle.winners.proofs.takes_later.Statement.{statement}
 use Rattle.winners.proofs.takes_later.Tie as tie
-use Rattle.winners.proofs.takes_later.Reads as reads
-use Rattle.winners.proofs.takes_later.Lts as lts
-use Rattle.winners.proofs.key_of.Reads as key-of-reads
 
 neither : (t : Bool) → _≡_ {A = Choice ℕ} nothing (cond t nothing nothing)
 neither true = refl

@@ -3,8 +3,6 @@ use mathlib.Core.Path.{refl}
 use Rattle.blocking.proofs.Flats.{everywhere}
 use Rattle.blocking.proofs.flat.filled.Statement.{statement}
 use Rattle.blocking.proofs.flat.filled.Tie as tie
-use Rattle.blocking.proofs.flat.filled.Reads as reads
-use Rattle.blocking.proofs.flat.filled.Lts as lts
 
 returns : tie.Need-returns
 returns c = everywhere _ _ refl

@@ -10,9 +10,6 @@ use Rattle.blocking.specs.Outlined.{Flat}
 use Rattle.blocking.proofs.Flats.{one-flat}
 use Rattle.blocking.proofs.flat.flatten.Statement.{statement}
 use Rattle.blocking.proofs.flat.flatten.Tie as tie
-use Rattle.blocking.proofs.flat.flatten.Reads as reads
-use Rattle.blocking.proofs.flat.flatten.Lts as lts
-use Rattle.grid.proofs.point_at.Reads as point-at-reads
 
 abbrev Inv-loop : tie.InvT-loop
 Inv-loop coords xs₀ ys₀ n k₀ xs ys k = (k ≤ n) × Flat (pointsOf coords) k xs ys

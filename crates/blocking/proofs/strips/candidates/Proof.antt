@@ -7,10 +7,6 @@ use Rattle.blocking.specs.Strips.{candidatesOf}
 use Rattle.blocking.proofs.Stripping.{on-x, on-y}
 use Rattle.blocking.proofs.strips.candidates.Statement.{statement}
 use Rattle.blocking.proofs.strips.candidates.Tie as tie
-use Rattle.blocking.proofs.strips.candidates.Reads as reads
-use Rattle.blocking.proofs.strips.candidates.Lts as lts
-use Rattle.blocking.proofs.strips.reach_lower.Reads as reach-lower-reads
-use Rattle.blocking.proofs.strips.reach_upper.Reads as reach-upper-reads
 
 -- the coordinates are on the grid
 xs : (c : tie.Start) → (onGrid (c .args .a .x) ≡ true) × (onGrid (c .args .b .x) ≡ true) × (onGrid (c .args .c .x) ≡ true)
@@ -33,7 +29,11 @@ reach-lower-requires-2 c κs = (ys (c .before .before .before), lit< tt)
 
 returns : tie.Need-returns
 unfolding candidatesOf
-returns c = rw (c .before .before .before .reach-upper .ensures, c .before .before .reach-lower .ensures, c .before .reach-upper2 .ensures, c .reach-lower2 .ensures)
+returns c =
+    let upper = c .before in
+    let left = upper .before in
+    let right = left .before in
+    rw (right .reach-upper .ensures, left .reach-lower .ensures, upper .reach-upper2 .ensures, c .reach-lower2 .ensures)
 
 pub candidates-spec : {M : Type 1} → statement M
 candidates-spec =

@@ -3,10 +3,6 @@ use Rattle.blocking.proofs.Stripping.{all-stripped}
 use borrow.Author.Needs.{needs}
 use Rattle.blocking.proofs.strips.fill.Statement.{statement}
 use Rattle.blocking.proofs.strips.fill.Tie as tie
-use Rattle.blocking.proofs.strips.fill.Reads as reads
-use Rattle.blocking.proofs.strips.fill.Lts as lts
-use Rattle.blocking.proofs.strips.gather.Reads as gather-reads
-use Rattle.blocking.proofs.strips.mark_all.Reads as mark-all-reads
 
 mark-all-requires : tie.Need-mark-all-requires
 mark-all-requires c κs = search needs

@@ -4,8 +4,6 @@ use native.Mathlib.Omega.{arith}
 use Rattle.blocking.proofs.Stripping.{Gathered, gathered-first, gathered-more}
 use Rattle.blocking.proofs.strips.gather.Statement.{statement}
 use Rattle.blocking.proofs.strips.gather.Tie as tie
-use Rattle.blocking.proofs.strips.gather.Reads as reads
-use Rattle.blocking.proofs.strips.gather.Lts as lts
 
 abbrev Inv-loop : tie.InvT-loop
 Inv-loop strips₀ i₀ strips i = (4 ≤ i) × (i ≤ 260) × Gathered strips₀ i strips

@@ -6,11 +6,6 @@ use Rattle.blocking.proofs.Stripping.{on-x, on-y, is-put, is-marked}
 use borrow.Author.Needs.{needs}
 use Rattle.blocking.proofs.strips.mark.Statement.{statement}
 use Rattle.blocking.proofs.strips.mark.Tie as tie
-use Rattle.blocking.proofs.strips.mark.Reads as reads
-use Rattle.blocking.proofs.strips.mark.Lts as lts
-use Rattle.blocking.proofs.strips.from_lower.Reads as from-lower-reads
-use Rattle.blocking.proofs.strips.from_upper.Reads as from-upper-reads
-use Rattle.blocking.proofs.strips.put.Reads as put-reads
 
 -- the places of the code, each from a later one
 abbrev first-put : tie.After-put2 → tie.After-put

@@ -10,10 +10,6 @@ use Rattle.blocking.specs.Strips.{MarkedUpTo}
 use Rattle.blocking.proofs.Stripping.{marked-more}
 use Rattle.blocking.proofs.strips.mark_all.Statement.{statement}
 use Rattle.blocking.proofs.strips.mark_all.Tie as tie
-use Rattle.blocking.proofs.strips.mark_all.Reads as reads
-use Rattle.blocking.proofs.strips.mark_all.Lts as lts
-use Rattle.blocking.proofs.strips.mark.Reads as mark-reads
-use Rattle.grid.proofs.point_at.Reads as point-at-reads
 
 abbrev Inv-loop : tie.InvT-loop
 Inv-loop coords strips₀ n k₀ strips k = (k ≤ n) × MarkedUpTo (pointsOf coords) k strips

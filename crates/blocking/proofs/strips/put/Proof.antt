@@ -7,8 +7,6 @@ use Rattle.algebra.proofs.Bits.{one-shifted}
 use borrow.Author.Needs.{needs}
 use Rattle.blocking.proofs.strips.put.Statement.{statement}
 use Rattle.blocking.proofs.strips.put.Tie as tie
-use Rattle.blocking.proofs.strips.put.Reads as reads
-use Rattle.blocking.proofs.strips.put.Lts as lts
 
 mul-strips : tie.Need-mul-strips
 mul-strips c = search needs

@@ -3,10 +3,6 @@ use mathlib.Core.Path.{_∙_}
 use borrow.Author.Needs.{needs}
 use Rattle.blocking.proofs.strips.reach_lower.Statement.{statement}
 use Rattle.blocking.proofs.strips.reach_lower.Tie as tie
-use Rattle.blocking.proofs.strips.reach_lower.Reads as reads
-use Rattle.blocking.proofs.strips.reach_lower.Lts as lts
-use Rattle.blocking.proofs.strips.any_of.Reads as any-of-reads
-use Rattle.blocking.proofs.strips.from_lower.Reads as from-lower-reads
 
 from-lower-requires : tie.Need-from-lower-requires
 from-lower-requires c κs = search needs

@@ -3,10 +3,6 @@ use mathlib.Core.Path.{_∙_}
 use borrow.Author.Needs.{needs}
 use Rattle.blocking.proofs.strips.reach_upper.Statement.{statement}
 use Rattle.blocking.proofs.strips.reach_upper.Tie as tie
-use Rattle.blocking.proofs.strips.reach_upper.Reads as reads
-use Rattle.blocking.proofs.strips.reach_upper.Lts as lts
-use Rattle.blocking.proofs.strips.any_of.Reads as any-of-reads
-use Rattle.blocking.proofs.strips.from_upper.Reads as from-upper-reads
 
 from-upper-requires : tie.Need-from-upper-requires
 from-upper-requires c κs = search needs

@@ -39,10 +39,10 @@ point-at-requires : tie.Need-point-at-requires
 point-at-requires c κs = (c .before .pre .0, point-fits _ _ (c .before .pre .1 .1 .0 .before))
 
 point-at-requires-2 : tie.Need-point-at-requires-2
-point-at-requires-2 c κs = (c .before .before .pre .0, point-fits _ _ (c .before .before .pre .1 .1 .0 .at))
+point-at-requires-2 c κs = let p = c .before .before .pre in (p .0, point-fits _ _ (p .1 .1 .0 .at))
 
 point-at-requires-3 : tie.Need-point-at-requires-3
-point-at-requires-3 c κs = (c .before .before .before .pre .0, point-fits _ _ (c .before .before .before .pre .1 .1 .0 .after))
+point-at-requires-3 c κs = let p = c .before .before .before .pre in (p .0, point-fits _ _ (p .1 .1 .0 .after))
 
 corner-direction-requires : tie.Need-corner-direction-requires
 corner-direction-requires c κs = (c .before .before .point-at .ensures .0, (c .before .point-at2 .ensures .0, c .point-at3 .ensures .0))
