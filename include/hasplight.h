@@ -7,6 +7,9 @@
  * Every input is answered, or refused by a number. A refusal reports 0 beside its number and changes no lent byte. After 0 the
  * lent bytes past those that are reported keep their contents.
  *
+ * No call takes memory from a heap. On the stack, by the compiled archive, cutting takes 40,000 bytes at most, merging 38,500, filling
+ * a line with areas 52,500, with triangles 46,500, and a point test 100; none of its arrays is larger than 7,000 bytes.
+ *
  *   1  odd number of coordinates             6  an output buffer too short
  *   2  fewer than 3 points                   7  a ring of four or more, met while cutting, has no ear
  *   3  more than 512 points                  8  triangle list not a multiple of three
