@@ -19,6 +19,12 @@ count-within i (suc n) = here & each-imp later (count-within (suc i) n)
     later : (j : ℕ) → (suc i ≤ j) × (j < suc i + n) → (i ≤ j) × (j < i + suc n)
     later j h = omega arith
 
+pub count-below : (n : ℕ) → Each (λ i. i < n) (countFrom 0 n)
+count-below n = each-imp below (count-within 0 n)
+  where
+    below : (j : ℕ) → (0 ≤ j) × (j < 0 + n) → j < n
+    below j h = omega arith
+
 pub count-distinct : (i n : ℕ) → Distinct (countFrom i n)
 count-distinct i zero = empty
 count-distinct i (suc n) = new (each-imp behind (count-within (suc i) n)) (count-distinct (suc i) n)

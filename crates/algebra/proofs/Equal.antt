@@ -46,3 +46,9 @@ not-false false e = sym e
 pub or-false : (a b : Bool) → (a || b) ≡ false → (a ≡ false) × (b ≡ false)
 or-false true b e = impossible (cc)
 or-false false b e = (refl, e)
+
+-- where u rules t out, it need not be asked
+pub and-only : (t u : Bool) → (u ≡ true → t ≡ false) → u ≡ (not t && u)
+and-only true true h = h refl
+and-only true false h = refl
+and-only false u h = refl

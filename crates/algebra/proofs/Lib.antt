@@ -6,6 +6,7 @@ pub mod Equal
 pub mod Lists
 pub mod Bits
 pub mod Counting
+pub mod Occurrences
 pub mod Sums
 pub mod Rings
 pub mod Examples

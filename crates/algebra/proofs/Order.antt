@@ -70,6 +70,9 @@ dn-neg (pos zero) = refl
 dn-neg (pos (suc n)) = refl
 dn-neg (negsuc n) = refl
 
+pub neg-zero : (a : ℤ) → negℤ a ≡ pos 0 → a ≡ pos 0
+neg-zero a e = →≡ℤ (omega (arith, ≡ℤ→ e, up-neg a, dn-neg a))
+
 pub at- : (a b : ℤ) → up (a -ℤ b) + (dn a + up b) ≡ up a + dn b + dn (a -ℤ b)
 at- a b = omega (arith, at+ a (negℤ b), up-neg b, dn-neg b)
 

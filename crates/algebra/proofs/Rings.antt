@@ -2,12 +2,13 @@
 -- that loses an element, or that is joined from two rings at the edge which they share.
 use Prim.Native.Nat.{ℕ, suc}
 use mathlib.Core.Path.{_≡_, refl, sym, _∙_, ap, ap₂}
-use mathlib.Core.List.{List, [], _∷_, _++_, map, append-assoc, append-nil}
+use mathlib.Core.Logic.{_≢_}
+use mathlib.Core.List.{List, [], _∷_, _++_, map, map-append, append-assoc, append-nil}
 use native.Mathlib.Omega.{arith}
 use lib.ListN.{length, take, drop, length-append, take-append-drop}
 use lib.Seq.{take-at, drop-at}
-use Rattle.algebra.specs.Lists.{Each, end, _&_, countFrom}
-use Rattle.algebra.proofs.Lists.{each-swap, each-++, each-front, each-map, each-all}
+use Rattle.algebra.specs.Lists.{Each, end, _&_, Distinct, new, countFrom}
+use Rattle.algebra.proofs.Lists.{each-swap, each-++, each-front, each-map, each-all, distinct-swap}
 use Rattle.algebra.specs.Sums.{Sums, total}
 use Rattle.algebra.proofs.Sums.{total-++, total-swap, insert, left-comm, idr}
 use Rattle.algebra.specs.Rings.{Edge, Corner, steps, edges, bends, corners, lastOf, firstOf, begunAt, rotationsFrom, rotations, around}
@@ -19,6 +20,25 @@ module _ {A : Type 0} where
   pub last-++ : (a : A) (l : List A) (b : A) (m : List A) → lastOf a (l ++ b ∷ m) ≡ lastOf b m
   last-++ a [] b m = refl
   last-++ a (x ∷ l) b m = last-++ x l b m
+
+  pub each-last : {P : A → Type 0} {a : A} {l : List A} → Each P (a ∷ l) → P (lastOf a l)
+  each-last (p & end) = p
+  each-last (p & (q & h)) = each-last (q & h)
+
+  -- ---- what holds of the elements of a walk holds of the ends of its steps
+
+  pub each-from : {P : A → Type 0} {a : A} {l : List A} → Each P (a ∷ l) → Each (λ e. P (e .from)) (steps a l)
+  each-from (p & end) = end
+  each-from (p & (q & h)) = p & each-from (q & h)
+
+  pub each-to : {P : A → Type 0} (a : A) {l : List A} → Each P l → Each (λ e. P (e .to)) (steps a l)
+  each-to a end = end
+  each-to a (_&_ {a = b} p h) = p & each-to b h
+
+  -- where nothing is met twice, no step begins at the last
+  pub not-from-last : {a : A} {l : List A} → Distinct (a ∷ l) → Each (λ e. e .from ≢ lastOf a l) (steps a l)
+  not-from-last (new end d) = end
+  not-from-last (new (n & h) d) = each-last (n & h) & not-from-last d
 
   -- ---- a walk through b is one to b and one from b
 
@@ -52,6 +72,9 @@ pub record Rotated {A : Type 0} (l m : List A) : Type 0 where
 pub swapped : {A : Type 0} (xs ys : List A) → Rotated (xs ++ ys) (ys ++ xs)
 swapped xs ys = record { front = xs; back = ys; was = refl; now = refl }
 
+pub rotated-back : {A : Type 0} {l m : List A} → Rotated l m → Rotated m l
+rotated-back t = record { front = t .back; back = t .front; was = t .now; now = t .was }
+
 unrotated : {A : Type 0} (l : List A) → Rotated l l
 unrotated l = record { front = []; back = l; was = refl; now = sym (append-nil l) }
 
@@ -79,6 +102,17 @@ module _ {A : Type 0} where
   pub edges-without : {P : Edge A → Type 0} (p : A) (l : List A) → Each P (edges (p ∷ l)) → P (edge (lastOf p l) (firstOf p l)) → Each P (edges l)
   edges-without p [] h n = end
   edges-without {P} p (s ∷ l) (q & h) n = rw (steps-last s l s) (each-++ (each-front (steps s l) (edge (lastOf s l) p ∷ []) (rw (steps-last s l p) at h)) (n & end))
+
+  pub distinct-rotated : {l m : List A} → Rotated l m → Distinct l → Distinct m
+  distinct-rotated t d = rw (t .now) (distinct-swap (t .front) (t .back) (rw (t .was) at d))
+
+  pub map-rotated : {B : Type 0} (f : A → B) {l m : List A} → Rotated l m → Rotated (map f l) (map f m)
+  map-rotated f t = record {
+    front = map f (t .front);
+    back = map f (t .back);
+    was = ap (map f) (t .was) ∙ map-append f (t .front) (t .back);
+    now = ap (map f) (t .now) ∙ map-append f (t .back) (t .front);
+  }
 
   pub total-rotated : {G : Type 0} (S : Sums G) (f : A → G) {l m : List A} → Rotated l m → total S f l ≡ total S f m
   total-rotated S f t = rw (t .was, t .now) (total-swap S f (t .front) (t .back))

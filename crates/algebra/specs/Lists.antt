@@ -1,6 +1,6 @@
 -- Lists: what holds of each element, lists in which nothing stands twice, searches, counting, and the sum of numbers.
 use Prim.Native.Nat.{ℕ, zero, suc, _+_}
-use mathlib.Core.Bool.{Bool, false, _||_}
+use mathlib.Core.Bool.{Bool, false, cond, _||_}
 use mathlib.Core.Logic.{_≢_}
 use mathlib.Core.List.{List, [], _∷_}
 use mathlib.Core.Option.{Option, none, some}
@@ -18,6 +18,17 @@ pub data Distinct {A : Type 0} : List A → Type 0 where
 abbrev pub any : {A : Type 0} → (A → Bool) → List A → Bool
 any f [] = false
 any f (a ∷ l) = f a || any f l
+
+-- the elements that pass the test
+abbrev pub keep : {A : Type 0} → (A → Bool) → List A → List A
+keep f [] = []
+keep f (a ∷ l) = cond (f a) (a ∷ keep f l) (keep f l)
+
+-- the list with element i changed
+abbrev pub change : {A : Type 0} → (A → A) → ℕ → List A → List A
+change c i [] = []
+change c zero (a ∷ l) = c a ∷ l
+change c (suc i) (a ∷ l) = a ∷ change c i l
 
 abbrev pub orElse : {A : Type 0} → Option A → Option A → Option A
 orElse (some a) m = some a

@@ -1,5 +1,5 @@
--- What the cutter's and the merger's refusals leave: where none applies, the outline has all that the theorems on cutting ask, and is cut;
--- the triangles have all that the theorems on merging ask. And refusal 7 exactly, over the cutter's own number.
+-- What the cutter's, the merger's and the hull's refusals leave: where none applies, the outline has all that the theorems on cutting ask, and is cut;
+-- the triangles have all that the theorems on merging ask, and the cloud all that those on hulls ask. And refusal 7 exactly, over the cutter's own number.
 use Prim.Native.Nat.{ℕ, _*_, _-_, _/_, _%_, _≤_, _<_}
 use mathlib.Core.Path.{_≡_, refl, sym, _∙_, ap}
 use mathlib.Core.Logic.{_≢_}
@@ -18,10 +18,10 @@ use Rattle.rules.specs.Plane.{Pt, point, same}
 use Rattle.rules.specs.Grid.{pointsOf}
 use Rattle.rules.specs.Cut.{Cut, stuck, done, cut}
 use Rattle.rules.specs.Measure.{points, Apart}
-use Rattle.rules.specs.Refusals.{firstRefusal, equalNeighbours, isStuck, noEar, outOfRange, countChecks, outlineChecks, beforeCutting, cutterChecks, listChecks, mergerChecks}
+use Rattle.rules.specs.Refusals.{firstRefusal, equalNeighbours, isStuck, noEar, outOfRange, onOneLine, countChecks, outlineChecks, beforeCutting, cutterChecks, listChecks, mergerChecks, hullChecks}
 use Rattle.rules.specs.Entries.{cutter}
 use Rattle.rules.proofs.Rows.{passes, applies, row-on, front-none, front-skips, others-decide}
-use Rattle.rules.proofs.Fronts.{cutter-front, seven-front, list-front, triangles-front}
+use Rattle.rules.proofs.Fronts.{cutter-front, seven-front, list-front, triangles-front, cloud-front}
 use Rattle.rules.proofs.Points.{differ, apart→not-same}
 use Rattle.rules.proofs.Outline.{all-points}
 use Rattle.rules.proofs.Outlines.{Outlined, outlined}
@@ -126,7 +126,7 @@ module _ (cs : List Float) (out : List ℕ) where
   seven→stuck e =
       let rows : firstRefusal (cutterChecks cs (length out)) ≡ 7 = sym (cutter-number cs out) ∙ e in
       let early = front-skips (seven-front cs (length out)) 7 refl rows in
-      let is = stuck-is (cut ps) (applies (noEar ps) 6 (sym (others-decide (seven-front cs (length out)) early) ∙ rows)) in
+      let is = stuck-is (cut ps) (applies (noEar ps) 6 [] refl (sym (others-decide (seven-front cs (length out)) early) ∙ rows)) in
       record { no-earlier = early; ring = stuck→no-ear ps (ready cs (length out) early .outlines .at-least) is }
 
   pub stuck→seven : StuckOnTheWay → cutter cs out .number ≡ 7
@@ -175,3 +175,20 @@ module _ (cs : List Float) (triangles : List ℕ) (room roomForLengths : ℕ) wh
         fits = ltb-false room n s;
         fits-lengths = ltb-false roomForLengths (n / 3) t;
       }
+
+-- ---- the hull's
+
+-- a cloud that is not on one line, with a slot for each point
+pub record Cloud (cs : List Float) (room : ℕ) : Type 0 where
+  pub outlines : Outlined 2 mostPoints cs
+  pub off-line : onOneLine (pointsOf cs) ≡ false
+  pub fits : length (pointsOf cs) ≤ room
+
+pub cloud : (cs : List Float) (room : ℕ) → firstRefusal (hullChecks cs room) ≡ 0 → Cloud cs room
+unfolding onOneLine
+cloud cs room e =
+    let points = length (pointsOf cs) in
+    let none = front-none (cloud-front cs room) e in
+    let (line, e₁₂) = passes (onOneLine (pointsOf cs)) 11 _ (sym (others-decide (cloud-front cs room) none) ∙ e) in
+    let (short, e₆) = passes (ltb room points) 5 _ e₁₂ in
+    record { outlines = outlined 2 mostPoints cs none; off-line = line; fits = ltb-false room points short }

@@ -13,8 +13,9 @@ use Rattle.rules.specs.Grid.{pointOf, pointsOf}
 use Rattle.rules.specs.Cut.{cut}
 use Rattle.rules.specs.Merge.{mayJoin, merge}
 use Rattle.rules.specs.Layout.{flatten, triples, over}
-use Rattle.rules.specs.Refusals.{Row, firstRefusal, cutterChecks, mergerChecks, pointTestChecks}
-use Rattle.rules.specs.Entries.{unless, Cutting, Merging, Asking, trianglesOf, trianglesFor, cutter, merger, asking, writtenTriangles, writtenPieces}
+use Rattle.rules.specs.Hull.{hull}
+use Rattle.rules.specs.Refusals.{Row, firstRefusal, cutterChecks, mergerChecks, pointTestChecks, hullChecks}
+use Rattle.rules.specs.Entries.{unless, Cutting, Merging, Asking, Hulling, trianglesOf, trianglesFor, cutter, merger, asking, huller, writtenTriangles, writtenPieces, writtenCorners}
 use Rattle.rules.specs.Lines.{Writing, writing}
 use Rattle.rules.proofs.Layouts.{take-over, triangles-length, triangles-back, pieces-back}
 
@@ -133,6 +134,35 @@ module _ {A : Type 0} (no-answer : A) (test : Pt → List Pt → A) (x y : Float
   -- a refused question is answered with "no"
   pub asking-none : asking no-answer test x y cs .number ≢ 0 → asking no-answer test x y cs .answer ≡ no-answer
   asking-none d = ap (λ (r : Asking A). r .answer) (asking-refused d)
+
+-- ---- the hull of a cloud
+
+module _ (cs : List Float) (out : List ℕ) where
+  abbrev hulled : List ℕ
+  hulled = hull (pointsOf cs)
+
+  pub huller-number : huller cs out .number ≡ firstRefusal (hullChecks cs (length out))
+  unfolding huller
+  huller-number = unless-number (λ (r : Hulling). r .number) _ _ (λ n. refl) refl (firstRefusal (hullChecks cs (length out)))
+
+  pub huller-answered : huller cs out .number ≡ 0 → huller cs out ≡ record { number = 0; count = length hulled; indices = over hulled out }
+  unfolding huller
+  huller-answered e = unless-answered _ _ (sym huller-number ∙ e)
+
+  pub huller-refused : huller cs out .number ≢ 0 → huller cs out ≡ record { number = huller cs out .number; count = 0; indices = out }
+  unfolding huller
+  huller-refused d = unless-refused _ _ (λ e. d (huller-number ∙ e)) ∙ ap (λ n. record { number = n; count = 0; indices = out }) (sym huller-number)
+
+  -- a refused call reports no corner and leaves every lent index as it was
+  pub huller-none : huller cs out .number ≢ 0 → (huller cs out .count ≡ 0) × (huller cs out .indices ≡ out)
+  huller-none d = (ap (λ (r : Hulling). r .count) (huller-refused d), ap (λ (r : Hulling). r .indices) (huller-refused d))
+
+  pub huller-written : huller cs out .number ≡ 0 → writtenCorners (huller cs out) ≡ hulled
+  huller-written e = rw (huller-answered e) (take-over hulled out)
+
+  -- after 0, what lies beyond the reported corners keeps its contents
+  pub huller-beyond : huller cs out .number ≡ 0 → drop (huller cs out .count) (huller cs out .indices) ≡ drop (huller cs out .count) out
+  huller-beyond e = rw (huller-answered e) (over-beyond hulled out)
 
 -- ---- lines of text
 

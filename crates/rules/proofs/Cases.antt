@@ -6,11 +6,11 @@ use Rattle.rules.specs.Grid.{pointsOf}
 use Rattle.rules.specs.Crossing.{oddCrossings, insideConvex}
 use Rattle.rules.specs.Measure.{area2}
 use Rattle.rules.specs.Root.{root}
-use Rattle.rules.specs.Entries.{cutter, merger, asking}
+use Rattle.rules.specs.Entries.{cutter, merger, asking, huller}
 use Rattle.rules.specs.Cases.{Holds, table}
 
 pub cases-hold : Each Holds table
-unfolding cutter merger asking oddCrossings insideConvex root area2 pointsOf Ieee.ofInt
+unfolding cutter merger asking huller oddCrossings insideConvex root area2 pointsOf Ieee.ofInt
 cases-hold =
     refl & refl & refl & refl & refl & refl & refl & refl & refl & refl & refl & refl & refl & refl & refl & refl & refl & refl & refl & refl
     & refl & refl & refl & refl & refl & refl & refl & refl & refl & refl & refl & refl & refl & refl & refl & refl & refl & refl & refl & refl
@@ -19,4 +19,5 @@ cases-hold =
     & refl & refl & refl & refl & refl & refl & refl & refl & refl & refl & refl & refl & refl & refl & refl & refl & refl & refl & refl & refl
     & refl & refl & refl & refl & refl & refl & refl & refl & refl & refl & refl & refl & refl & refl & refl & refl & refl & refl & refl & refl
     & refl & refl & refl & refl & refl & refl & refl & refl & refl & refl & refl & refl & refl & refl & refl & refl & refl & refl & refl & refl
-    & refl & refl & refl & refl & refl & end
+    & refl & refl & refl & refl & refl & refl & refl & refl & refl & refl & refl & refl & refl & refl & refl & refl & refl & refl & refl & refl
+    & refl & end

@@ -2,13 +2,13 @@
 use mathlib.Core.Path.{_≡_, refl, sym, _∙_, ap}
 use mathlib.Core.Bool.{Bool, true, false, not, _&&_, _||_}
 use mathlib.Core.List.{[], _∷_}
-use Prim.Native.Nat.{zero, suc}
-use lib.IntN.{ℤ, pos, negsuc, negℤ}
+use Prim.Native.Nat.{zero}
+use lib.IntN.{ℤ, pos, negℤ}
 use lib.Signed.{ltZ}
 use Rattle.algebra.specs.Reify.{reify}
 use Rattle.algebra.proofs.Equal.{impossible}
 use Rattle.algebra.proofs.Solve.{ring}
-use Rattle.algebra.proofs.Order.{lin}
+use Rattle.algebra.proofs.Order.{lin, neg-zero}
 use Rattle.rules.specs.Plane.{Pt, turn}
 use Rattle.rules.specs.Crossing.{perp, insideConvex}
 use Rattle.rules.proofs.Turns.{coordinates, below-neg, above-neg, perp-turn, perp-back}
@@ -40,11 +40,6 @@ zero-only z e = go (ltZ (pos 0) z) refl (ltZ z (pos 0)) refl (rw (above-neg z, b
 convex-two-is : (p a b : Pt) → insideConvex p (a ∷ b ∷ []) ≡ one-side (perp p a b) (negℤ (perp p a b))
 unfolding insideConvex
 convex-two-is p a b = ap (one-side (perp p a b)) (perp-back p a b)
-
-neg-zero : (z : ℤ) → negℤ z ≡ pos 0 → z ≡ pos 0
-neg-zero (pos zero) e = refl
-neg-zero (pos (suc n)) e = impossible (cc)
-neg-zero (negsuc n) e = impossible (cc)
 
 pub convex-two→line : (p a b : Pt) → insideConvex p (a ∷ b ∷ []) ≡ true → turn a b p ≡ pos 0
 convex-two→line p a b e = neg-zero (turn a b p) (sym (perp-turn p a b) ∙ zero-only (perp p a b) (sym (convex-two-is p a b) ∙ e))

@@ -7,7 +7,7 @@ use lib.ListN.{length}
 use lib.Ieee.{Float}
 use Rattle.rules.specs.Limits.{mostPoints}
 use Rattle.rules.specs.Grid.{pointsOf}
-use Rattle.rules.specs.Refusals.{_gives_, offGrid, noEar, shortToCut, countChecks, outlineChecks, ringChecks, beforeCutting, cutterChecks, listChecks, beforeTriangles, triangleChecks, mergerChecks, pointTestChecks}
+use Rattle.rules.specs.Refusals.{_gives_, offGrid, noEar, shortToCut, countChecks, outlineChecks, ringChecks, beforeCutting, cutterChecks, listChecks, beforeTriangles, triangleChecks, mergerChecks, pointTestChecks, cloudChecks, hullChecks}
 use Rattle.rules.specs.Lines.{polygonRoom, polygonChecks}
 use Rattle.rules.proofs.Rows.{Front}
 
@@ -44,6 +44,12 @@ triangles-front cs triangles room roomForLengths = record { whole = refl; number
 pub asked-front : (x y : Float) (cs : List Float) → Front (outlineChecks 0 mostPoints cs) (offGrid (x ∷ y ∷ []) gives 4 ∷ []) (pointTestChecks x y cs)
 unfolding countChecks outlineChecks pointTestChecks
 asked-front x y cs = record { whole = refl; numbered = refl }
+
+-- ---- the hull
+
+pub cloud-front : (cs : List Float) (room : ℕ) → Front (outlineChecks 2 mostPoints cs) (cloudChecks (pointsOf cs) room) (hullChecks cs room)
+unfolding countChecks outlineChecks hullChecks
+cloud-front cs room = record { whole = refl; numbered = refl }
 
 -- ---- the writer of a POLYGON line
 

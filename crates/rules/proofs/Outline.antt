@@ -7,8 +7,7 @@ use lib.IntN.{pos}
 use lib.ListN.{length, drop, drop-of-length-le}
 use lib.Seq.{drop-cons}
 use Rattle.algebra.specs.Lists.{Each, countFrom}
-use Rattle.algebra.proofs.Lists.{each-imp}
-use Rattle.algebra.proofs.Counting.{count-within, count-distinct, count-length}
+use Rattle.algebra.proofs.Counting.{count-below, count-distinct, count-length}
 use Rattle.algebra.specs.Sums.{total, integers}
 use Rattle.rules.specs.Plane.{Pt, point}
 use Rattle.algebra.specs.Rings.{Corner, ringOf}
@@ -45,10 +44,7 @@ module _ (ps : List Pt) (ts : List (Corner ℕ)) (three : 3 ≤ length ps) (cuts
   cut-count = omega (arith, cuts-length (cuts (length ps - 3) ps (countFrom 0 (length ps)) ts ring-cut))
 
   pub cut-indices : Each (λ t. Each (λ i. i < length ps) (ringOf t)) ts
-  cut-indices = cuts-each (cuts (length ps - 3) ps (countFrom 0 (length ps)) ts ring-cut) (each-imp below (count-within 0 (length ps)))
-    where
-      below : (j : ℕ) → (0 ≤ j) × (j < 0 + length ps) → j < length ps
-      below j h = omega arith
+  cut-indices = cuts-each (cuts (length ps - 3) ps (countFrom 0 (length ps)) ts ring-cut) (count-below (length ps))
 
   -- ---- every measure of the outline is the sum of the triangles'
 

@@ -3,30 +3,18 @@ use Prim.Native.Nat.{ℕ, suc, _<_}
 use native.Mathlib.Omega.{arith}
 use mathlib.Core.Path.{_≡_, refl, sym, _∙_, ap₂, subst}
 use mathlib.Core.Logic.{_≢_}
-use mathlib.Core.List.{List, [], _∷_, _++_, map, append-assoc, append-nil}
+use mathlib.Core.List.{List, [], _∷_, _++_, map, append-assoc}
 use lib.ListN.{length, length-append, length-set, getD, set}
 use lib.Seq.{getD-set-same, getD-set-other}
 use Rattle.algebra.specs.Lists.{Each, end, _&_, Distinct, new}
-use Rattle.algebra.proofs.Lists.{each-++, each-front, each-back, each-swap, each-imp, each-head}
-use Rattle.algebra.proofs.Counting.{count-within, count-distinct}
+use Rattle.algebra.proofs.Lists.{each-++, each-back, each-swap, each-imp, each-head, each-both, distinct-swap}
+use Rattle.algebra.proofs.Counting.{count-below, count-distinct}
 use Rattle.algebra.specs.Rings.{Edge, steps, edges, lastOf, firstOf}
-use Rattle.algebra.proofs.Rings.{Rotated, steps-last, edges-two, edges-rotated, each-rotated, rotated-length}
+use Rattle.algebra.proofs.Rings.{Rotated, steps-last, edges-two, edges-rotated, each-rotated, distinct-rotated, rotated-length}
 use Rattle.rules.specs.Merge.{JoinTest}
 use Rattle.rules.proofs.QueueSlots.{mayMeet}
-use Rattle.rules.proofs.QueueSteps.{each-both}
 
 -- ---- numbers
-
-distinct-insert : {A : Type 0} (ys : List A) (x : A) (xs : List A) → Each (λ b. x ≢ b) (ys ++ xs) → Distinct (ys ++ xs) → Distinct (ys ++ x ∷ xs)
-distinct-insert [] x xs h d = new h d
-distinct-insert (y ∷ ys) x xs (h & hs) (new k d) = new (each-++ (each-front ys xs k) ((λ e. h (sym e)) & each-back ys xs k)) (distinct-insert ys x xs hs d)
-
-distinct-swap : {A : Type 0} (xs ys : List A) → Distinct (xs ++ ys) → Distinct (ys ++ xs)
-distinct-swap [] ys d = rw append-nil d
-distinct-swap (x ∷ xs) ys (new h d) = distinct-insert ys x xs (each-swap xs ys h) (distinct-swap xs ys d)
-
-distinct-rotated : {A : Type 0} {l m : List A} → Rotated l m → Distinct l → Distinct m
-distinct-rotated t d = rw (t .now) (distinct-swap (t .front) (t .back) (rw (t .was) at d))
 
 -- the places are distinct, and numbered below their count
 pub record Numbered (places : List ℕ) : Type 0 where
@@ -36,7 +24,7 @@ pub record Numbered (places : List ℕ) : Type 0 where
 pub numbered-begins : Numbered (0 ∷ 1 ∷ 2 ∷ [])
 numbered-begins = record {
   distinct = count-distinct 0 3;
-  below = each-imp (λ j h. h .1) (count-within 0 3);
+  below = count-below 3;
 }
 
 module _ {places : List ℕ} {n e : ℕ} {more : List ℕ} (t : Rotated places (n ∷ e ∷ more)) where

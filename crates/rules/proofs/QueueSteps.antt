@@ -8,7 +8,7 @@ use mathlib.Core.List.{List, [], _∷_, _++_, map, map-append, append-assoc, app
 use mathlib.Core.Option.{none, some}
 use lib.ListN.{length, length-append}
 use Rattle.algebra.specs.Lists.{Each, end, _&_}
-use Rattle.algebra.proofs.Lists.{each-++, each-front, each-back, each-swap, each-imp}
+use Rattle.algebra.proofs.Lists.{each-++, each-front, each-back, each-swap, each-imp, each-unmap, each-both}
 use Rattle.algebra.proofs.Equal.{impossible}
 use Rattle.algebra.proofs.Rings.{Rotated}
 use Rattle.rules.specs.Merge.{Part, mate, JoinTest, nextJoin, merge}
@@ -129,14 +129,6 @@ queued-live p n l h i = rw (h, i)
 length-places : (l : List Slot) → length (placesOf l) ≡ length l
 length-places [] = refl
 length-places (p ∷ l) = ap suc (length-places l)
-
-each-unmap : {A B : Type 0} {P : B → Type 0} (f : A → B) (l : List A) → Each P (map f l) → Each (λ a. P (f a)) l
-each-unmap f [] h = end
-each-unmap f (a ∷ l) (h & hs) = h & each-unmap f l hs
-
-pub each-both : {A : Type 0} {P Q : A → Type 0} {l : List A} → Each P l → Each Q l → Each (λ a. P a × Q a) l
-each-both end end = end
-each-both (p & h) (q & k) = (p, q) & each-both h k
 
 queued-short : (l : List Slot) → length (queued l) ≤ length l
 queued-short [] = omega arith

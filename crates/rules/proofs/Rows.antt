@@ -3,7 +3,7 @@ use Prim.Native.Nat.{ℕ, suc}
 use mathlib.Core.Path.{_≡_, refl, sym, _∙_, ap}
 use mathlib.Core.Logic.{_⊎_, inl, inr, _≢_}
 use mathlib.Core.Bool.{Bool, true, false, _||_}
-use mathlib.Core.List.{List, [], _∷_, _++_, map, List·Memᴰ, List·Memᴰ·head, List·Memᴰ·tail, List·Memᴰ·cases-cons}
+use mathlib.Core.List.{List, [], _∷_, _++_, map, append-nil, List·Memᴰ, List·Memᴰ·head, List·Memᴰ·tail, List·Memᴰ·cases-cons}
 use native.Mathlib.Omega.{arith}
 use lib.Dec.{eqb}
 use Rattle.algebra.proofs.Equal.{impossible, eqb-same, or-false}
@@ -31,12 +31,6 @@ skips false n rows d h = (refl, h)
 -- a list that gives none passes all
 pub passes : (t : Bool) (n : ℕ) (rows : List Row) → firstRefusal (t gives suc n ∷ rows) ≡ 0 → (t ≡ false) × (firstRefusal rows ≡ 0)
 passes t n rows h = skips t (suc n) rows (omega arith) h
-
--- the last row applies where it gives its number
-pub applies : (t : Bool) (n : ℕ) → firstRefusal (t gives suc n ∷ []) ≡ suc n → t ≡ true
-unfolding firstRefusal
-applies true n h = refl
-applies false n h = absurd (omega arith)
 
 abbrev pub numberOf : Row → ℕ
 numberOf (t gives n) = n
@@ -81,6 +75,12 @@ unfolding firstRefusal
 first-skips n [] more h e = refl
 first-skips n (true gives k ∷ rows) more h e = impossible (cc (eqb-same n, or-false (eqb k n) (has n rows) h .0))
 first-skips n (false gives k ∷ rows) more h e = first-skips n rows more (or-false (eqb k n) (has n rows) h .1) e
+
+-- a row whose number is given, and which no later row has, applies
+pub applies : (t : Bool) (n : ℕ) (rows : List Row) → has (suc n) rows ≡ false → firstRefusal (t gives suc n ∷ rows) ≡ suc n → t ≡ true
+unfolding firstRefusal
+applies true n rows h e = refl
+applies false n rows h e = absurd (omega (arith, first-skips (suc n) rows [] h (ap firstRefusal (append-nil rows) ∙ e)))
 
 first-off : (rows more : List Row) → has 0 rows ≡ false → firstRefusal rows ≡ 0 → firstRefusal (rows ++ more) ≡ firstRefusal more
 unfolding firstRefusal

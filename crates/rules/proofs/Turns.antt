@@ -29,6 +29,12 @@ turn-edges a b c = ring (coordinates (a ∷ b ∷ c ∷ [])) (search reify depth
 pub turn-none : (a b : Pt) → turn a b a ≡ pos 0
 turn-none a b = ring (coordinates (a ∷ b ∷ [])) (search reify depth 12) (search reify depth 12) refl
 
+pub turn-end : (a b : Pt) → turn a b b ≡ pos 0
+turn-end a b = ring (coordinates (a ∷ b ∷ [])) (search reify depth 12) (search reify depth 12) refl
+
+pub turn-back : (a b c : Pt) → turn b a c ≡ negℤ (turn a b c)
+turn-back a b c = ring (coordinates (a ∷ b ∷ c ∷ [])) (search reify depth 12) (search reify depth 12) refl
+
 pub cross-back : (a b : Pt) → cross a b +ℤ cross b a ≡ pos 0
 cross-back a b = ring (coordinates (a ∷ b ∷ [])) (search reify depth 12) (search reify depth 12) refl
 

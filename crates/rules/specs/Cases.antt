@@ -1,5 +1,6 @@
 -- Document 01, "Twelve small cases", as one table: what is lent to which entry, and everything that comes back.
--- Behind the twelve, cases for "Slips that look right", the edge of the grid, the choice of the ear, the joins, and each refusal and their order.
+-- Behind the twelve, cases for "Slips that look right", the edge of the grid, the choice of the ear, the joins, each refusal and their order,
+-- and for the requests.
 use Prim.Native.Nat.{ℕ, _^_}
 use mathlib.Core.Path.{_≡_}
 use mathlib.Core.Bool.{Bool, true, false}
@@ -11,7 +12,7 @@ use lib.Ieee.{Float, nan, inf, fin, binary32}
 use Rattle.rules.specs.Grid.{pointsOf}
 use Rattle.rules.specs.Measure.{area2}
 use Rattle.rules.specs.Root.{root}
-use Rattle.rules.specs.Entries.{Cutting, Merging, Asking, cutter, merger, pointInPoly2d, pointInConvexPoly2d}
+use Rattle.rules.specs.Entries.{Cutting, Merging, Asking, Hulling, cutter, merger, pointInPoly2d, pointInConvexPoly2d, huller}
 
 -- what is lent and everything that comes back; `asking-both-at` has the outline test's answer, then the convex test's
 pub data Case : Type 0 where
@@ -19,6 +20,7 @@ pub data Case : Type 0 where
   merging : List Float → List ℕ → List ℕ → List ℕ → Merging → Case
   asking-at : Float → Float → List Float → Asking Bool → Case
   asking-both-at : Float → Float → List Float → Asking Bool → Asking Bool → Case
+  hulling : List Float → List ℕ → Hulling → Case
   rooting : ℕ → Float → Case
   measuring : List Float → ℤ → Case
 
@@ -27,6 +29,7 @@ Holds (cutting cs indices r) = cutter cs indices ≡ r
 Holds (merging cs triangles indices lengths r) = merger cs triangles indices lengths ≡ r
 Holds (asking-at x y cs r) = pointInPoly2d x y cs ≡ r
 Holds (asking-both-at x y cs r s) = _≡_ {A = Asking Bool × Asking Bool} (pointInPoly2d x y cs, pointInConvexPoly2d x y cs) (r, s)
+Holds (hulling cs indices r) = huller cs indices ≡ r
 Holds (rooting m r) = root m ≡ r
 Holds (measuring cs r) = area2 (pointsOf cs) ≡ r
 
@@ -100,6 +103,12 @@ both-answered x y cs outline convex = asking-both-at x y cs (answered outline) (
 
 abbrev both-refused : Float → Float → List Float → ℕ → Case
 both-refused x y cs n = asking-both-at x y cs (record { number = n; answer = false }) (record { number = n; answer = false })
+
+abbrev hull-is : List Float → ℕ → ℕ → List ℕ → Case
+hull-is cs room count indices = hulling cs (nines room) (record { number = 0; count = count; indices = indices })
+
+abbrev hull-refused : List Float → ℕ → ℕ → Case
+hull-refused cs room n = hulling cs (nines room) (record { number = n; count = 0; indices = nines room })
 
 abbrev pub table : List Case
 table =
@@ -284,4 +293,27 @@ table =
     ∷ both-refused (f 0) (f 0) (replicate 1026 (f 0)) 3
     ∷ both-refused nan (f 0) (replicate 1026 (f 0)) 3
     ∷ both-refused (f 0) (f 0) (replicate 1026 nan) 3
+    -- request M-104, the hull of a cloud: a square with a point in it, and one slot more than there are points
+    ∷ hull-is (whole (2 ∷ 2 ∷ 0 ∷ 0 ∷ 4 ∷ 0 ∷ 4 ∷ 4 ∷ 0 ∷ 4 ∷ [])) 6 4 (1 ∷ 2 ∷ 3 ∷ 4 ∷ 9 ∷ 9 ∷ [])
+    -- points on the sides and in the middle, one given twice: ties in the first directions, of which the first is taken
+    ∷ hull-is (whole (1 ∷ 1 ∷ 0 ∷ 0 ∷ 4 ∷ 0 ∷ 2 ∷ 0 ∷ 4 ∷ 4 ∷ 0 ∷ 4 ∷ 4 ∷ 2 ∷ 4 ∷ 4 ∷ 2 ∷ 2 ∷ [])) 9 4 (1 ∷ 2 ∷ 4 ∷ 5 ∷ 9 ∷ 9 ∷ 9 ∷ 9 ∷ 9 ∷ [])
+    -- three are equally far: the first is taken, and a straight corner stays; in another order none does
+    ∷ hull-is (whole (0 ∷ 0 ∷ 6 ∷ 0 ∷ 2 ∷ 4 ∷ 1 ∷ 4 ∷ 4 ∷ 4 ∷ [])) 5 5 (0 ∷ 1 ∷ 4 ∷ 2 ∷ 3 ∷ [])
+    ∷ hull-is (whole (0 ∷ 0 ∷ 6 ∷ 0 ∷ 1 ∷ 4 ∷ 2 ∷ 4 ∷ 4 ∷ 4 ∷ [])) 5 4 (0 ∷ 1 ∷ 4 ∷ 2 ∷ 9 ∷ [])
+    -- the list begins at the first facet that stays, which is not the first of the walk; a point on the line through the first two ends
+    ∷ hull-is (whole (0 ∷ 2 ∷ 1 ∷ 0 ∷ 3 ∷ 0 ∷ 4 ∷ 2 ∷ 3 ∷ 4 ∷ 1 ∷ 4 ∷ 2 ∷ 2 ∷ [])) 7 6 (3 ∷ 4 ∷ 5 ∷ 0 ∷ 1 ∷ 2 ∷ 9 ∷ [])
+    -- the crate, with rounded distances, has point 3 as a corner too, on the straight way from 2 to 4
+    ∷ hull-is (f- 3 ∷ f- 4 ∷ f 1 ∷ f 0 ∷ f 1 ∷ f 3 ∷ f- 2 ∷ f 0 ∷ f- 3 ∷ f- 1 ∷ []) 5 4 (0 ∷ 1 ∷ 2 ∷ 4 ∷ 9 ∷ [])
+    -- all on one line: slanted, upright, two points, one point twice; 12 before 6
+    ∷ hull-refused (whole (0 ∷ 0 ∷ 1 ∷ 1 ∷ 2 ∷ 2 ∷ [])) 3 12
+    ∷ hull-refused (whole (3 ∷ 1 ∷ 3 ∷ 5 ∷ 3 ∷ 2 ∷ [])) 2 12
+    ∷ hull-refused (whole (0 ∷ 0 ∷ 2 ∷ 1 ∷ [])) 2 12
+    ∷ hull-refused (whole (2 ∷ 2 ∷ 2 ∷ 2 ∷ [])) 0 12
+    -- the refusals of the hull, and of two that apply the earlier: 1 before 2, 2 before 4, 3 before 4, 4 before 12; room for one point too few
+    ∷ hull-refused (whole (0 ∷ [])) 0 1
+    ∷ hull-refused [] 0 2
+    ∷ hull-refused (nan ∷ f 0 ∷ []) 1 2
+    ∷ hull-refused (replicate 1026 nan) 3 3
+    ∷ hull-refused (nan ∷ f 0 ∷ f 4 ∷ f 0 ∷ []) 2 4
+    ∷ hull-refused P 3 6
     ∷ []

@@ -12,7 +12,8 @@ use Rattle.rules.specs.Crossing.{inside, insideConvex}
 use Rattle.rules.specs.Cut.{Cut, stuck, done, cut}
 use Rattle.rules.specs.Merge.{mayJoin, merge}
 use Rattle.rules.specs.Layout.{flatten, split, triples, over}
-use Rattle.rules.specs.Refusals.{firstRefusal, cutterChecks, mergerChecks, pointTestChecks}
+use Rattle.rules.specs.Hull.{hull}
+use Rattle.rules.specs.Refusals.{firstRefusal, cutterChecks, mergerChecks, pointTestChecks, hullChecks}
 
 -- what is answered where no refusal applies, and what is refused by a number otherwise
 abbrev pub unless : {R : Type 0} → ℕ → (ℕ → R) → R → R
@@ -88,3 +89,23 @@ pointInPoly2d = asking false inside
 
 abbrev pub pointInConvexPoly2d : Float → Float → List Float → Asking Bool
 pointInConvexPoly2d = asking false insideConvex
+
+-- ---- the hull of a cloud
+
+pub record Hulling : Type 0 where
+  pub number : ℕ
+  -- of corners
+  pub count : ℕ
+  pub indices : List ℕ
+
+unfoldable pub huller : List Float → List ℕ → Hulling
+unfolding firstRefusal hullChecks hull
+huller cs out =
+    let corners = hull (pointsOf cs) in
+    unless (firstRefusal (hullChecks cs (length out)))
+    (λ n. record { number = n; count = 0; indices = out })
+    (record { number = 0; count = length corners; indices = over corners out })
+
+-- the corners that were written, read back
+abbrev pub writtenCorners : Hulling → List ℕ
+writtenCorners r = take (r .count) (r .indices)

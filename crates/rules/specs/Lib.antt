@@ -10,6 +10,7 @@ pub mod Merge
 pub mod MergeQueue
 pub mod Steps
 pub mod Layout
+pub mod Hull
 pub mod Refusals
 pub mod Entries
 pub mod Measure

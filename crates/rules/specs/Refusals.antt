@@ -8,7 +8,7 @@ use lib.Ieee.{Float}
 use Rattle.algebra.specs.Lists.{any}
 use Rattle.algebra.specs.Rings.{edges}
 use Rattle.rules.specs.Limits.{mostPoints, mostTriangles}
-use Rattle.rules.specs.Plane.{Pt, same}
+use Rattle.rules.specs.Plane.{Pt, same, left}
 use Rattle.rules.specs.Grid.{onGrid, pointsOf}
 use Rattle.rules.specs.Cut.{Cut, stuck, done, cut}
 
@@ -36,6 +36,10 @@ isStuck (done ts) = false
 unfoldable pub noEar : List Pt → Bool
 unfolding cut
 noEar ps = isStuck (cut ps)
+
+-- no three of the points turn; those that turn right turn left in another order
+unfoldable pub onOneLine : List Pt → Bool
+onOneLine ps = not (any (λ a. any (λ b. any (left a b) ps) ps) ps)
 
 -- 3(n - 2) indices are needed for n corners
 abbrev pub shortToCut : List Pt → ℕ → Bool
@@ -107,3 +111,16 @@ mergerChecks cs triangles room roomForLengths = beforeTriangles cs (length trian
 unfoldable pub pointTestChecks : Float → Float → List Float → List Row
 unfolding outlineChecks
 pointTestChecks x y cs = outlineChecks 0 mostPoints cs ++ (offGrid (x ∷ y ∷ []) gives 4 ∷ [])
+
+-- ---- request M-104: a cloud of two points or more, and one slot for each of them
+
+-- of the cloud, and of room for its hull
+abbrev pub cloudChecks : List Pt → ℕ → List Row
+cloudChecks ps room =
+    onOneLine ps gives 12
+    ∷ ltb room (length ps) gives 6
+    ∷ []
+
+unfoldable pub hullChecks : List Float → ℕ → List Row
+unfolding outlineChecks onOneLine
+hullChecks cs room = outlineChecks 2 mostPoints cs ++ cloudChecks (pointsOf cs) room
