@@ -1,13 +1,11 @@
 -- The turns that the code computes are exact, at most 2 ^ 24 on the way: so its test is the rule's.
-use Prim.Native.Nat.{ℕ, _+_, _^_, _≤_}
 use native.Mathlib.Nat.{le-trans}
-use native.Mathlib.Omega.{arith}
 use mathlib.Core.Path.{_≡_, refl, sym, _∙_}
 use mathlib.Core.Bool.{true, not, _||_}
 use mathlib.Core.List.{[], _∷_}
 use lib.Dec.{lit≤}
-use lib.IntN.{ℤ, natAbs, _+ℤ_, _-ℤ_, _*ℤ_}
-use lib.Ieee.{Float, Format, prec, binary32, add, sub}
+use lib.IntN.{ℤ, _+ℤ_, _-ℤ_, _*ℤ_}
+use lib.Ieee.{Float, binary32, sub}
 use Rattle.algebra.specs.Reify.{reify}
 use Rattle.algebra.proofs.Solve.{ring}
 use Rattle.rules.specs.Plane.{Pt, turn, left}
@@ -15,17 +13,11 @@ use Rattle.rules.specs.Ear as rules
 use Rattle.rules.proofs.Turns.{coordinates}
 use Rattle.grid.specs.declared.point.Point.{Point}
 use Rattle.grid.specs.Points.{onGridPt, ptOf}
-use Rattle.algebra.proofs.Sizes.{natAbs-add}
-use Rattle.grid.proofs.Value.{Is, Within, add-is, sub-is, lt-is, sub-within, mul-within}
+use Rattle.grid.proofs.Value.{Is, Within, sub-is, lt-is, add-within, sub-within, mul-within}
 use Rattle.grid.proofs.Turn.{pt-within, cross-within, below-zero}
 use Rattle.blocking.specs.ByTurns.{beyond, blocksByTurns}
 use Rattle.blocking.specs.InFloats.{weighted, sidesOf, beyondOf, blocksOf}
 use Rattle.blocking.proofs.ByTurns.{blocks-by-turns}
-
-add-within : (f : Format) {M N : ℕ} {x y : Float} {a b : ℤ} → Within M x a → Within N y b → M + N ≤ 2 ^ prec f → Within (M + N) (add f x y) (a +ℤ b)
-add-within f {M} {N} {x} {y} {a} {b} i j h =
-    let k : natAbs (a +ℤ b) ≤ M + N = omega (arith, natAbs-add a b, i .small, j .small) in
-    record { is = add-is f x y a b (i .is) (j .is) (le-trans k h); small = k }
 
 weighted-within :
     {a b x y : Float} {A B X Y : ℤ} → Within 2048 a A → Within 2048 b B → Within 1024 x X → Within 1024 y Y → Within 4194304 (weighted a b x y) (A *ℤ X +ℤ B *ℤ Y)

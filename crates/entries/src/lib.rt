@@ -66,6 +66,13 @@ pub fn wide_half(x: u16) -> u32
     x as u32
 }
 
+// Half a word as a place.
+pub fn place(x: u16) -> usize
+    ensures { λ r. ⌜ r ≡ x ⌝ }
+{
+    x as usize
+}
+
 // A word as a place or a size.
 pub fn wide(x: u32) -> usize
     ensures { λ r. ⌜ r ≡ x ⌝ }

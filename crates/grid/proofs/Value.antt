@@ -17,7 +17,7 @@ use lib.Ieee.Back.{round-whole, unsigned-back}
 use lib.Ieee.Scale.{round-same}
 use borrow.Author.Tests.{ltb-true, ltb-false, lt-ltb, le-ltb, eq-eqb, ne-eqb}
 use Rattle.algebra.proofs.Order.{leZ-not-ltZ}
-use Rattle.algebra.proofs.Sizes.{natAbs-sub, natAbs-mul}
+use Rattle.algebra.proofs.Sizes.{natAbs-add, natAbs-sub, natAbs-mul}
 use Rattle.rules.specs.Grid.{signed}
 use Rattle.rules.proofs.GridSizes.{natAbs-signed}
 
@@ -290,6 +290,11 @@ eq-is x y a b i j =
 pub record Within (N : ℕ) (x : Float) (z : ℤ) : Type 0 where
   pub is : Is x z
   pub small : natAbs z ≤ N
+
+pub add-within : (f : Format) {M N : ℕ} {x y : Float} {a b : ℤ} → Within M x a → Within N y b → M + N ≤ 2 ^ prec f → Within (M + N) (add f x y) (a +ℤ b)
+add-within f {M} {N} {x} {y} {a} {b} i j h =
+    let k : natAbs (a +ℤ b) ≤ M + N = omega (arith, natAbs-add a b, i .small, j .small) in
+    record { is = add-is f x y a b (i .is) (j .is) (le-trans k h); small = k }
 
 pub sub-within : (f : Format) {M N : ℕ} {x y : Float} {a b : ℤ} → Within M x a → Within N y b → M + N ≤ 2 ^ prec f → Within (M + N) (sub f x y) (a -ℤ b)
 sub-within f {M} {N} {x} {y} {a} {b} i j h =
