@@ -8,14 +8,15 @@
  * lent bytes past those that are reported keep their contents.
  *
  * No call takes memory from a heap. On the stack, by the compiled archive, cutting takes 40,000 bytes at most, merging 38,500, filling
- * a line with areas 52,500, with triangles 46,500, and a point test 100; none of its arrays is larger than 7,000 bytes.
+ * a line with areas 52,500, with triangles 46,500, a hull 13,500, and a point test 100; none of its arrays is larger than 7,000 bytes.
  *
  *   1  odd number of coordinates             6  an output buffer too short
- *   2  fewer than 3 points                   7  a ring of four or more, met while cutting, has no ear
+ *   2  fewer than 3 points, or 2 of a hull   7  a ring of four or more, met while cutting, has no ear
  *   3  more than 512 points                  8  triangle list not a multiple of three
  *   4  a coordinate, or the asked point,     9  a triangle index not below the number of points
  *      is off the grid                      10  more than 510 triangles
  *   5  two ring neighbours equal            11  a line that is not in form, or too long
+ *                                           12  all points on one line
  */
 #ifndef HASPLIGHT_H
 #define HASPLIGHT_H
@@ -27,7 +28,7 @@
 extern "C" {
 #endif
 
-/* count: triangles, pieces, or bytes of text; 0 beside a refusal */
+/* count: triangles, pieces, hull corners, or bytes of text; 0 beside a refusal */
 struct hasplight_answer {
     uint32_t number;
     uint32_t count;
@@ -63,6 +64,12 @@ struct hasplight_verdict hasplight_point_in_poly2d(
 struct hasplight_verdict hasplight_point_in_convex_poly2d(
     float x, float y,
     const uint8_t *coords, size_t coords_bytes);
+
+/* Finds the convex hull of a cloud of 2 to 512 points: the indices of its corners, counter-clockwise, to the front of `indices`, which has
+ * room for one for each point. A straight corner may occur. Refuses with 1, 2, 3, 4, 12, 6, in this order; two points are on one line. */
+struct hasplight_answer hasplight_convex_hull2_idx(
+    const uint8_t *coords, size_t coords_bytes,
+    uint8_t *indices, size_t indices_bytes);
 
 /* Fills the outline of a line as `POLYGON ((0 0, 4 0, 4 4, 0 4, 0 0))`, of at most 8,192 bytes, without a newline: cuts it, merges the
  * triangles, and writes the areas to the front of `out` as a line that begins with MULTIPOLYGON, without a newline or a zero behind it. For n

@@ -1,4 +1,5 @@
 //! One input, both sides: every number, count, answer and byte must agree, the guard bytes included.
+use crate::hull::Tally;
 use crate::inputs::Side;
 use crate::lent::Lent;
 use crate::{expected, ours, text};
@@ -16,6 +17,7 @@ pub struct Linked {
     /// Of those accepted, the cuts of outlines that pass a point twice.
     pub twice: u64,
     pub filled: u64,
+    pub hulls: Tally,
 }
 
 impl Linked {
@@ -76,6 +78,20 @@ impl Side for Linked {
                 differ(entry, &format!("({x}, {y}), coords {coords:?}"), &format!("{r:?}"), &format!("{s:?}"));
             }
             self.inputs += 1;
+        }
+    }
+
+    fn hull(&mut self, coords: &[u8], room: usize) {
+        let (mut a, mut b) = (Lent::new(room), Lent::new(room));
+        let r = ours::convex_hull2_idx(coords, a.lent());
+        let s = expected::convex_hull2_idx(coords, b.lent());
+        if r != s || a != b {
+            let inputs = format!("coords {coords:?}, {room} bytes of room");
+            differ("hull", &inputs, &format!("{r:?} {:?}", a.read()), &format!("{s:?} {:?}", b.read()));
+        }
+        self.inputs += 1;
+        if s.number == 0 {
+            self.hulls.add(expected::beside_crate(coords, &b.read()[..4 * s.count as usize]));
         }
     }
 

@@ -1,13 +1,8 @@
 //! The cutter a second time, from document 01's steps and request M-103: turns in whole numbers, pointiness in f32 as 01 has it.
 //! For outlines that pass a point twice, on which the crate has another rule.
 use crate::math::Vector;
+use crate::plane::{turn, whole, Point};
 use std::collections::HashSet;
-
-type Point = (i64, i64);
-
-fn turn(a: Point, b: Point, c: Point) -> i64 {
-    (b.0 - a.0) * (c.1 - a.1) - (b.1 - a.1) * (c.0 - a.0)
-}
 
 /// In the triangle of a left turn, its border included, and none of its corners.
 fn blocks([a, b, c]: [Point; 3], q: Point) -> bool {
@@ -39,7 +34,7 @@ fn corner(ring: &[usize], place: usize) -> [usize; 3] {
 
 /// The triangles, or nothing where a ring of four or more has no ear.
 pub fn cut(outline: &[Vector]) -> Option<Vec<[u32; 3]>> {
-    let points: Vec<Point> = outline.iter().map(|p| (p.x as i64, p.y as i64)).collect();
+    let points = whole(outline);
     let mut ring: Vec<usize> = (0..points.len()).collect();
     let mut ears: Vec<Option<f32>> = ring.iter().map(|&i| ear(&points, corner(&ring, i))).collect();
     let mut triangles = Vec::new();
@@ -68,5 +63,5 @@ pub fn cut(outline: &[Vector]) -> Option<Vec<[u32; 3]>> {
 /// Whether some point stands at two corners.
 pub fn repeats(outline: &[Vector]) -> bool {
     let mut seen = HashSet::new();
-    !outline.iter().all(|p| seen.insert((p.x as i64, p.y as i64)))
+    !whole(outline).into_iter().all(|p| seen.insert(p))
 }

@@ -1,7 +1,9 @@
 //! What must come back: the refusals in document 01's order, and on accepted input what the crate gives; of a cut where a point is passed
-//! twice, what request M-103 gives.
+//! twice, what request M-103 gives, and of a hull, what request M-104 gives.
+use crate::hull::{self, Relation};
 use crate::lent::{bytes_of, words};
 use crate::math::Vector;
+use crate::plane::whole;
 use crate::{cutter, parry};
 
 #[repr(C)]
@@ -117,6 +119,45 @@ pub fn hertel_mehlhorn_idx(coords: &[u8], triangles: &[u8], indices: &mut [u8], 
     let sizes: Vec<u32> = pieces.iter().map(|p| p.len() as u32).collect();
     lengths[..4 * sizes.len()].copy_from_slice(&bytes_of(&sizes));
     Answer { number: 0, count: pieces.len() as u32 }
+}
+
+pub fn convex_hull2_idx(coords: &[u8], indices: &mut [u8]) -> Answer {
+    let fs = floats(coords);
+    let ps = points(&fs);
+    if fs.len() % 2 == 1 {
+        return refused(1);
+    }
+    if ps.len() < 2 {
+        return refused(2);
+    }
+    if ps.len() > 512 {
+        return refused(3);
+    }
+    if !fs.iter().all(|&f| on_grid(f)) {
+        return refused(4);
+    }
+    let ps = whole(&ps);
+    if hull::one_line(&ps) {
+        return refused(12);
+    }
+    if indices.len() / 4 < ps.len() {
+        return refused(6);
+    }
+    let corners = hull::corners(&ps);
+    let written = bytes_of(&corners.iter().map(|&i| i as u32).collect::<Vec<_>>());
+    indices[..written.len()].copy_from_slice(&written);
+    Answer { number: 0, count: corners.len() as u32 }
+}
+
+/// How the crate's hull of a cloud that is accepted relates to the expected corners. It must have every one of these that is not straight.
+pub fn beside_crate(coords: &[u8], corners: &[u8]) -> Relation {
+    let ps = points(&floats(coords));
+    let corners: Vec<usize> = words(corners).into_iter().map(|i| i as usize).collect();
+    let theirs = parry::convex_hull2_idx(&ps);
+    let ps = whole(&ps);
+    let lost = hull::turning(&ps, &corners).into_iter().find(|&p| !theirs.iter().any(|&i| ps[i] == p));
+    assert_eq!(lost, None, "a corner of {corners:?} that the crate's hull {theirs:?} of {ps:?} does not have");
+    hull::relation(&ps, &corners, &theirs)
 }
 
 fn asked(x: f32, y: f32, coords: &[u8], test: fn(Vector, &[Vector]) -> bool) -> Verdict {

@@ -1,4 +1,5 @@
 //! The inputs on which both sides must agree, whatever is done with each: it is compared by a call, or written down with what must come back.
+use crate::clouds;
 use crate::expected::MOST;
 use crate::lent::{bytes_of, bytes_of_floats};
 use crate::random::Random;
@@ -11,6 +12,7 @@ pub trait Side {
     fn merge(&mut self, coords: &[u8], triangles: &[u8], room: usize, places: usize);
     /// Both point tests.
     fn ask(&mut self, x: f32, y: f32, coords: &[u8]);
+    fn hull(&mut self, coords: &[u8], room: usize);
     /// The roots of so many radicands from the first on.
     fn roots(&mut self, first: u32, count: u32);
 }
@@ -41,7 +43,7 @@ fn digits(mut i: usize, base: usize, lens: &[usize]) -> Vec<usize> {
     unreachable!("there are not so many")
 }
 
-/// An outline of up to four corners on three by three points, cut, merged and asked at all points in and round it.
+/// An outline of up to four corners on three by three points, cut, merged and asked at all points in and round it; and its hull.
 fn short_outline(side: &mut impl Side, i: usize) {
     let outline: Outline = digits(i, 9, &[0, 1, 2, 3, 4]).into_iter().map(|d| ((d % 3) as i32, (d / 3) as i32)).collect();
     let bytes = bytes_of_floats(&coords(&outline));
@@ -51,6 +53,7 @@ fn short_outline(side: &mut impl Side, i: usize) {
     for p in 0..25 {
         side.ask((p % 5) as f32 - 1.0, (p / 5) as f32 - 1.0, &bytes);
     }
+    side.hull(&bytes, 4 * outline.len());
 }
 
 /// A list of up to two triangles over four points, and an index past them.
@@ -69,21 +72,25 @@ pub fn short(side: &mut impl Side, i: usize) {
     }
 }
 
-/// Corners of any number up to the most and some more, of one of the shapes or at random, or with slots.
+/// How many corners or points: any number up to the most and some more.
+fn number(r: &mut Random) -> usize {
+    match r.below(8) {
+        0 => 500 + r.below(20),
+        1 | 2 => 16 + r.below(100),
+        _ => r.below(16),
+    }
+}
+
+/// Corners of one of the shapes or at random, or with slots.
 pub fn random_outline(r: &mut Random) -> Outline {
     if r.below(4) == 0 {
         return slots::random(r);
     }
-    let n = match r.below(8) {
-        0 => 500 + r.below(20),
-        1 | 2 => 16 + r.below(100),
-        _ => r.below(16),
-    };
+    let n = number(r);
     if n >= 4 && r.below(2) == 0 {
         return KINDS[r.below(KINDS.len())].1(n);
     }
-    let size = [1, 2, 3, 10, 1024][r.below(5)];
-    (0..n).map(|_| (r.within(-size, size), r.within(-size, size))).collect()
+    clouds::some_square(r, n)
 }
 
 /// A room of about so many bytes.
@@ -131,8 +138,24 @@ fn random_ask(side: &mut impl Side, r: &mut Random, outline: &Outline, bytes: &[
     }
 }
 
-/// An outline and three damaged ones, cut, merged and asked.
+/// A cloud and three damaged ones.
+fn random_hulls(side: &mut impl Side, r: &mut Random) {
+    let n = number(r);
+    let good = bytes_of_floats(&coords(&clouds::random(r, n)));
+    for round in 0..4 {
+        let bytes = if round == 0 { good.clone() } else { damaged(r, &good) };
+        let room = if round < 2 { 4 * n } else { about(r, 4 * n) };
+        side.hull(&bytes, room);
+    }
+}
+
+/// An outline and three damaged ones, cut, merged and asked; and the hulls of three clouds and of damaged ones.
 pub fn random(side: &mut impl Side, r: &mut Random) {
+    random_outlines(side, r);
+    (0..3).for_each(|_| random_hulls(side, r));
+}
+
+fn random_outlines(side: &mut impl Side, r: &mut Random) {
     let outline = random_outline(r);
     let good = bytes_of_floats(&coords(&outline));
     for round in 0..4 {

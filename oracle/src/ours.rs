@@ -10,6 +10,7 @@ extern "C" {
     fn hasplight_hertel_mehlhorn_idx(coords: &[u8], triangles: &[u8], indices: &mut [u8], lengths: &mut [u8]) -> Answer;
     fn hasplight_point_in_poly2d(x: f32, y: f32, coords: &[u8]) -> Verdict;
     fn hasplight_point_in_convex_poly2d(x: f32, y: f32, coords: &[u8]) -> Verdict;
+    fn hasplight_convex_hull2_idx(coords: &[u8], indices: &mut [u8]) -> Answer;
     fn hasplight_fill_areas(line: &[u8], out: &mut [u8]) -> Answer;
     fn hasplight_fill_triangles(line: &[u8], out: &mut [u8]) -> Answer;
 }
@@ -37,6 +38,10 @@ pub fn point_in_poly2d(x: f32, y: f32, coords: &[u8]) -> Verdict {
 
 pub fn point_in_convex_poly2d(x: f32, y: f32, coords: &[u8]) -> Verdict {
     unsafe { hasplight_point_in_convex_poly2d(x, y, coords) }
+}
+
+pub fn convex_hull2_idx(coords: &[u8], indices: &mut [u8]) -> Answer {
+    unsafe { hasplight_convex_hull2_idx(coords, indices) }
 }
 
 pub fn fill(line: &[u8], triangles_only: bool, out: &mut [u8]) -> Answer {

@@ -1,5 +1,6 @@
 //! Inputs with what must come back, as records for the program `replay`: crates/replay/src/record.rt says how one stands.
 use crate::expected;
+use crate::hull::Tally;
 use crate::inputs::Side;
 use crate::lent::{bytes_of, bytes_of_floats, words};
 
@@ -16,11 +17,12 @@ pub struct Records<F: FnMut(u64, &[u8])> {
     pub accepted: u64,
     /// Of those accepted, the cuts of outlines that pass a point twice.
     pub twice: u64,
+    pub hulls: Tally,
 }
 
 impl<F: FnMut(u64, &[u8])> Records<F> {
     pub fn new(put: F) -> Records<F> {
-        Records { put, records: 0, inputs: 0, accepted: 0, twice: 0 }
+        Records { put, records: 0, inputs: 0, accepted: 0, twice: 0, hulls: Tally::default() }
     }
 
     fn record(&mut self, entry: u32, parts: [&[u8]; 4], number: u32, count: u32) {
@@ -57,6 +59,15 @@ impl<F: FnMut(u64, &[u8])> Side for Records<F> {
         self.record(4, [coords, &spot, &[], &[]], v.number, v.answer);
     }
 
+    fn hull(&mut self, coords: &[u8], room: usize) {
+        let mut indices = vec![FILL; room];
+        let a = expected::convex_hull2_idx(coords, &mut indices);
+        self.record(6, [coords, &[], &indices, &[]], a.number, a.count);
+        if a.number == 0 {
+            self.hulls.add(expected::beside_crate(coords, &indices[..4 * a.count as usize]));
+        }
+    }
+
     fn roots(&mut self, first: u32, count: u32) {
         let end = first + count;
         for m in (first..end).step_by(ROOTS_EACH as usize) {
@@ -76,6 +87,6 @@ pub fn shown(record: &[u8]) -> String {
         parts.push(part);
         rest = behind;
     }
-    let entry = ["cut", "merge", "inside", "inside, convex", "roots"][head[0] as usize - 1];
+    let entry = ["cut", "merge", "inside", "inside, convex", "roots", "hull"][head[0] as usize - 1];
     format!("{entry}: {parts:?}\n  expected: number {}, count or answer {}", head[5], head[6])
 }

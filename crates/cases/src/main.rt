@@ -1,4 +1,5 @@
-// Document 01's cases and the runs beside them, printed for a person to read: each outline cut, the triangles merged, spots asked.
+// Document 01's cases and the runs beside them, printed for a person to read: each outline cut, the triangles merged, spots asked, and the
+// hulls of clouds.
 mod shapes;
 mod show;
 
@@ -6,6 +7,7 @@ use show::ask;
 use show::ask_convex;
 use show::cut;
 use show::cut_large;
+use show::hull;
 use show::merge;
 use show::merge_large;
 use show::root;
@@ -136,6 +138,54 @@ fn lists_of_many() {
     merge_large(b"511 triangles", &p, &[0u32; 1533]);
 }
 
+// Clouds: points in and on a square, equals, straight corners, and where the crate answers otherwise.
+fn clouds() {
+    let middle = [2.0f32, 2.0, 0.0, 0.0, 4.0, 0.0, 4.0, 4.0, 0.0, 4.0];
+    let kept = [0.0f32, 0.0, 6.0, 0.0, 2.0, 4.0, 1.0, 4.0, 4.0, 4.0];
+    let left_out = [0.0f32, 0.0, 6.0, 0.0, 1.0, 4.0, 2.0, 4.0, 4.0, 4.0];
+    let slanted = [-3.0f32, -4.0, 1.0, 0.0, 1.0, 3.0, -2.0, 0.0, -3.0, -1.0];
+    let rounded = [
+        45.0f32,
+        -50.0,
+        60.0,
+        -110.0,
+        -85.0,
+        70.0,
+        240.0,
+        -230.0,
+        -20.0,
+        10.0,
+    ];
+    hull(b"a square and its middle", &middle, &mut [9u32; 5]);
+    hull(b"a straight corner that stays", &kept, &mut [9u32; 5]);
+    hull(b"the same in another order", &left_out, &mut [9u32; 5]);
+    hull(
+        b"a cloud with a straight corner in the crate",
+        &slanted,
+        &mut [9u32; 5],
+    );
+    hull(
+        b"a cloud whose ring turns back in the crate",
+        &rounded,
+        &mut [9u32; 5],
+    );
+}
+
+// The limits of the hull.
+fn clouds_refused(border: &[f32]) {
+    let line = [0.0f32, 0.0, 2.0, 1.0, 6.0, 3.0];
+    hull(b"three on a line and no room", &line, &mut [9u32; 0]);
+    hull(b"two points", front(&line, 4), &mut [9u32; 2]);
+    hull(b"one point", front(&line, 2), &mut [9u32; 1]);
+    hull(b"a square with three slots", &square(), &mut [9u32; 3]);
+    hull(
+        b"512 points round a square",
+        front(border, 1024),
+        &mut [9u32; 512],
+    );
+    hull(b"513 points", border, &mut [9u32; 513]);
+}
+
 // A cover with two bolt ears: 12 corners.
 fn cover() {
     let cover = [
@@ -228,6 +278,9 @@ fn main() {
     triangle_lists();
     lists_of_many();
     many(&shapes::border(), &shapes::comb(), &shapes::spiral());
+    text(b"\nClouds\n");
+    clouds();
+    clouds_refused(&shapes::border());
     text(b"\nRoots\n");
     show::roots();
     text(b"\nA cover\n");

@@ -1,4 +1,5 @@
 // Runs an entry, and writes its name and what came back as one line.
+use convex_hull2::convex_hull2_idx;
 use ear_clipping::triangulate_ear_clipping;
 use entries::MOST_TRIANGLES;
 use entries::zeros;
@@ -152,6 +153,19 @@ pub fn merge_large(name: &[u8], coords: &[f32], triangles: &[u32]) {
         return;
     }
     counted(b" pieces ", a.count);
+    text(b"\n");
+}
+
+pub fn hull(name: &[u8], coords: &[f32], indices: &mut [u32]) {
+    let a = convex_hull2_idx(coords, indices);
+    begin(name);
+    if a.number != 0 {
+        refused(a.number);
+        return;
+    }
+    counted(b" corners ", a.count);
+    text(b":");
+    group(indices, 0, at_most(a.count));
     text(b"\n");
 }
 

@@ -1,6 +1,8 @@
 pub mod Counting
 pub mod Least
+pub mod Lending
 pub mod Cutting
+pub mod Hulling
 pub mod Asked
 pub mod Sizes
 pub mod Merging

@@ -1,7 +1,7 @@
 -- Over the bytes: a refused call reports a count of 0, or "no", and leaves every lent byte as it was; after 0 the bytes beyond what is
 -- reported keep their contents.
 use Prim.Native.Nat.{ℕ, _*_}
-use mathlib.Core.Path.{_≡_, refl, _∙_, ap}
+use mathlib.Core.Path.{_≡_, refl, sym, _∙_, ap}
 use mathlib.Core.Logic.{_≢_}
 use mathlib.Core.Bool.{Bool, false, cond}
 use mathlib.Core.List.{List, [], map}
@@ -11,14 +11,16 @@ use lib.Seq.{length-take-le}
 use lib.Ieee.{Float}
 use Rattle.rules.specs.Plane.{Pt}
 use Rattle.rules.specs.Layout.{flatten, split, over}
-use Rattle.rules.specs.Entries.{cutter, merger, writtenPieces}
-use Rattle.rules.proofs.Answers.{over-beyond, cutter-none, merger-none, asking-none}
+use Rattle.rules.specs.Entries.{merger, writtenPieces}
+use Rattle.rules.proofs.Answers.{over-beyond, merger-none, asking-none}
 use Rattle.words.specs.Bytes.{wordsOf, floatsOf, bytesOf}
 use Rattle.words.proofs.Words.{bytes-length}
 use Rattle.entries.specs.declared.Answer.{Answer}
-use Rattle.hasplight.specs.Promise.{CutterPromise, MergerPromise, PointPromise}
+use Rattle.hasplight.specs.Promise.{Reported, CutterPromise, MergerPromise, PointPromise, HullPromise}
 use Rattle.hasplight.specs.declared.Verdict.{Verdict}
-use Rattle.hasplight.proofs.Cutting.{cut-fits, kept-length}
+use Rattle.hasplight.proofs.Lending.{Reports}
+use Rattle.hasplight.proofs.Cutting.{cut-reports}
+use Rattle.hasplight.proofs.Hulling.{hull-reports}
 
 -- what n words are written over keeps its contents beyond their bytes
 beyond : (ws old new : List ℕ) (n : ℕ) → new ≡ over (bytesOf ws) old → length ws ≡ n → drop (4 * n) new ≡ drop (4 * n) old
@@ -30,24 +32,34 @@ nothing : (ws old new : List ℕ) → new ≡ over (bytesOf ws) old → ws ≡ [
 unfolding bytesOf
 nothing ws old new e none = e ∙ ap (λ (w : List ℕ). over (bytesOf w) old) none
 
--- ---- the cutter
+-- ---- the cutter and the hull
 
-module _ (coords indices : List ℕ) (r : Answer) (indices' : List ℕ) (p : CutterPromise coords indices r indices') where
-  abbrev cs : List Float
-  cs = floatsOf coords
+module _ {number count : List ℕ → ℕ} {words : List ℕ → List ℕ} {size : ℕ → ℕ} {need : ℕ} (e : Reports number count words size need) (indices : List ℕ) (r : Answer) (indices' : List ℕ)
+    (p : Reported (number (wordsOf indices)) (count (wordsOf indices)) (take (size (count (wordsOf indices))) (words (wordsOf indices))) indices r indices') where
+  reported-refused : r .number ≢ 0 → (r .count ≡ 0) × (indices' ≡ indices)
+  reported-refused d =
+      let out = wordsOf indices in
+      let none = e .refused out (λ z. d (p .number-is ∙ z)) in
+      (p .count-is ∙ none, nothing (take (size (count out)) (words out)) indices indices' (p .bytes) (ap (λ (n : ℕ). take n (words out)) (ap size none ∙ e .nothing)))
 
-  abbrev out : List ℕ
-  out = wordsOf indices
+  reported-beyond : drop (4 * size (r .count)) indices' ≡ drop (4 * size (r .count)) indices
+  reported-beyond =
+      let out = wordsOf indices in
+      beyond (take (size (count out)) (words out)) indices indices' (size (r .count)) (p .bytes)
+      (length-take-le (size (count out)) (words out) (omega (arith, e .fits out, e .kept out)) ∙ ap size (sym (p .count-is)))
 
-  pub cutter-refused : r .number ≢ 0 → (r .count ≡ 0) × (indices' ≡ indices)
-  cutter-refused d =
-      let none = p .count ∙ cutter-none cs out (λ e. d (p .number ∙ e)) .0 in
-      (none, nothing (take (3 * r .count) (cutter cs out .indices)) indices indices' (p .bytes) (ap (λ (n : ℕ). take (3 * n) (cutter cs out .indices)) none))
+module _ (coords indices : List ℕ) (r : Answer) (indices' : List ℕ) where
+  pub cutter-refused : CutterPromise coords indices r indices' → r .number ≢ 0 → (r .count ≡ 0) × (indices' ≡ indices)
+  cutter-refused p = reported-refused (cut-reports (floatsOf coords)) indices r indices' p
 
-  pub cutter-beyond : drop (4 * (3 * r .count)) indices' ≡ drop (4 * (3 * r .count)) indices
-  cutter-beyond =
-      beyond (take (3 * r .count) (cutter cs out .indices)) indices indices' (3 * r .count) (p .bytes)
-      (length-take-le (3 * r .count) (cutter cs out .indices) (omega (arith, cut-fits cs out, kept-length cs out, p .count)))
+  pub cutter-beyond : CutterPromise coords indices r indices' → drop (4 * (3 * r .count)) indices' ≡ drop (4 * (3 * r .count)) indices
+  cutter-beyond p = reported-beyond (cut-reports (floatsOf coords)) indices r indices' p
+
+  pub hull-refused : HullPromise coords indices r indices' → r .number ≢ 0 → (r .count ≡ 0) × (indices' ≡ indices)
+  hull-refused p = reported-refused (hull-reports (floatsOf coords)) indices r indices' p
+
+  pub hull-beyond : HullPromise coords indices r indices' → drop (4 * r .count) indices' ≡ drop (4 * r .count) indices
+  hull-beyond p = reported-beyond (hull-reports (floatsOf coords)) indices r indices' p
 
 -- ---- the merger
 

@@ -1,27 +1,22 @@
 -- Two results that a promise allows are equal.
-use Prim.Native.Nat.{ℕ, _*_}
-use mathlib.Core.Path.{_≡_, sym, _∙_, ap}
+use Prim.Native.Nat.{ℕ}
+use mathlib.Core.Path.{_≡_, sym, _∙_}
 use mathlib.Core.Bool.{Bool}
 use mathlib.Core.List.{List}
-use lib.ListN.{take}
 use lib.Ieee.{Float}
 use Rattle.rules.specs.Plane.{Pt}
-use Rattle.rules.specs.Layout.{over}
 use Rattle.rules.specs.Entries.{cutter}
-use Rattle.words.specs.Bytes.{wordsOf, floatsOf, bytesOf}
-use Rattle.hasplight.specs.Promise.{CutterPromise, MergerPromise, PointPromise}
+use Rattle.hasplight.specs.Promise.{Reported, MergerPromise, PointPromise}
 use Rattle.entries.specs.declared.Answer.{Answer}
 use Rattle.entries.proofs.Answers.{answers-equal}
 use Rattle.hasplight.specs.declared.Verdict.{Verdict}
 
-pub cutter-unique :
-    (coords indices : List ℕ) (r s : Answer) (indices₁ indices₂ : List ℕ) → CutterPromise coords indices r indices₁ → CutterPromise coords indices s indices₂
+-- of the cutter (`CutterPromise`) and of the hull (`HullPromise`)
+pub reported-unique :
+    (number count : ℕ) (report indices : List ℕ) (r s : Answer) (indices₁ indices₂ : List ℕ) → Reported number count report indices r indices₁ → Reported number count report indices s indices₂
     → (r ≡ s) × (indices₁ ≡ indices₂)
-cutter-unique coords indices r s indices₁ indices₂ p q =
-    let c : r .count ≡ s .count = p .count ∙ sym (q .count) in (
-      answers-equal r s (p .number ∙ sym (q .number)) c,
-      p .bytes ∙ ap (λ (n : ℕ). over (bytesOf (take (3 * n) (cutter (floatsOf coords) (wordsOf indices) .indices))) indices) c ∙ sym (q .bytes),
-    )
+reported-unique number count report indices r s indices₁ indices₂ p q =
+    (answers-equal r s (p .number-is ∙ sym (q .number-is)) (p .count-is ∙ sym (q .count-is)), p .bytes ∙ sym (q .bytes))
 
 pub merger-unique :
     (coords triangles indices lengths : List ℕ) (r s : Answer) (indices₁ lengths₁ indices₂ lengths₂ : List ℕ) → MergerPromise coords triangles indices lengths r indices₁ lengths₁

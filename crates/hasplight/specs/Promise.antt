@@ -10,7 +10,7 @@ use lib.Ieee.{Float}
 use Rattle.rules.specs.Limits.{mostIndices}
 use Rattle.rules.specs.Plane.{Pt}
 use Rattle.rules.specs.Layout.{flatten, over}
-use Rattle.rules.specs.Entries.{cutter, merger, asking, writtenPieces}
+use Rattle.rules.specs.Entries.{cutter, merger, asking, huller, writtenPieces, writtenCorners}
 use Rattle.words.specs.Bytes.{wordsOf, floatsOf, bytesOf}
 use Rattle.entries.specs.declared.Answer.{Answer}
 use Rattle.hasplight.specs.declared.Verdict.{Verdict}
@@ -24,11 +24,15 @@ abbrev pub cornersOf : ℕ → ℕ → ℕ → ℕ
 cornersOf zero t count = t / 3 + 2 * count
 cornersOf (suc number) t count = 0
 
+-- of an entry that reports indices: its number and count, and the report as bytes
+pub record Reported (number count : ℕ) (report indices : List ℕ) (r : Answer) (indices' : List ℕ) : Type 0 where
+  pub number-is : r .number ≡ number
+  pub count-is : r .count ≡ count
+  pub bytes : indices' ≡ over (bytesOf report) indices
+
 -- what the cutter gives back for these coordinates
-pub record CutterGives (cs : List Float) (indices : List ℕ) (r : Answer) (indices' : List ℕ) : Type 0 where
-  pub number : r .number ≡ cutter cs (wordsOf indices) .number
-  pub count : r .count ≡ cutter cs (wordsOf indices) .count
-  pub bytes : indices' ≡ over (bytesOf (take (3 * r .count) (cutter cs (wordsOf indices) .indices))) indices
+abbrev pub CutterGives : List Float → List ℕ → Answer → List ℕ → Type 0
+CutterGives cs indices = let c = cutter cs (wordsOf indices) in Reported (c .number) (c .count) (take (3 * c .count) (c .indices)) indices
 
 abbrev pub CutterPromise : List ℕ → List ℕ → Answer → List ℕ → Type 0
 CutterPromise coords = CutterGives (floatsOf coords)
@@ -50,3 +54,10 @@ pub record PointGives (test : Pt → List Pt → Bool) (x y : Float) (cs : List 
 
 abbrev pub PointPromise : (Pt → List Pt → Bool) → Float → Float → List ℕ → Verdict → Type 0
 PointPromise test x y coords = PointGives test x y (floatsOf coords)
+
+-- what the hull of a cloud gives back for these coordinates
+abbrev pub HullGives : List Float → List ℕ → Answer → List ℕ → Type 0
+HullGives cs indices = let h = huller cs (wordsOf indices) in Reported (h .number) (h .count) (writtenCorners h) indices
+
+abbrev pub HullPromise : List ℕ → List ℕ → Answer → List ℕ → Type 0
+HullPromise coords = HullGives (floatsOf coords)

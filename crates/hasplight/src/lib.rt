@@ -1,5 +1,6 @@
 // Hasplight for those who link it: the entries on numbers and byte slices. Each f32, index or length stands as four bytes, low byte
 // first; bytes past the last whole four are neither read nor written.
+pub mod hull;
 mod room;
 pub mod text;
 

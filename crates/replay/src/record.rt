@@ -1,4 +1,4 @@
-// A record: an input of an exported entry, and what must come back. It is seven numbers of four bytes, low byte first (the entry, 1 to 5;
+// A record: an input of an exported entry, and what must come back. It is seven numbers of four bytes, low byte first (the entry, 1 to 6;
 // how many bytes of four parts follow, at most 8192 each; number; count or answer), and then those parts:
 //
 //   entry               1st part     2nd part             3rd part          4th part
@@ -6,6 +6,7 @@
 //   2 merger            coordinates  triangles            lent indices      lent lengths
 //   3, 4 point tests    coordinates  the asked point
 //   5 root                           the first radicand   the roots' bits
+//   6 hull              coordinates                       lent indices
 //
 // The lent parts are as they must be after the call; before it they hold 90 everywhere. A record of the root says it of a radicand and of
 // those that follow it, as many as its count.
@@ -84,7 +85,7 @@ pub fn formed(record: &[u8]) -> bool {
     let indices = number(record, 3);
     let lengths = number(record, 4);
     match number(record, 0) {
-        1 => given == 0 && lengths == 0,
+        1 | 6 => given == 0 && lengths == 0,
         2 => true,
         3 | 4 => given == 8 && indices == 0 && lengths == 0,
         5 => number(record, 1) == 0
@@ -108,6 +109,19 @@ fn cut(record: &[u8], coords: &[u8], indices: &[u8]) -> bool {
     let mut all = lent();
     let room = &mut all[..bytes(record, 3)];
     let a = hasplight::hasplight_triangulate_ear_clipping(coords, room);
+    if a.number != number(record, 5) {
+        return false;
+    }
+    if a.count != number(record, 6) {
+        return false;
+    }
+    same(room, indices)
+}
+
+fn hull(record: &[u8], coords: &[u8], indices: &[u8]) -> bool {
+    let mut all = lent();
+    let room = &mut all[..bytes(record, 3)];
+    let a = hasplight::hull::hasplight_convex_hull2_idx(coords, room);
     if a.number != number(record, 5) {
         return false;
     }
@@ -213,6 +227,9 @@ pub fn different(record: &[u8]) -> usize
     }
     if entry == 5 {
         return other_roots(number(given, 0), indices, bytes(record, 3) / 4);
+    }
+    if entry == 6 {
+        return one_unless(hull(record, coords, indices));
     }
     one_unless(ask(record, coords, given, entry == 4))
 }

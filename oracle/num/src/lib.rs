@@ -1,4 +1,4 @@
-//! A stand-in for the crate `num`: the one trait that the crate's files use.
+//! A stand-in for the crates `num` and `num_traits`: the one trait that the crate's files use of either.
 
 pub trait Zero {
     fn is_zero(&self) -> bool;

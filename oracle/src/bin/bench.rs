@@ -1,9 +1,11 @@
 //! bench: ours and the crate's, and CGAL's where it is linked, on the same inputs in one run; prints a table of times and ratios.
+use oracle::clouds::cloud;
+use oracle::hull::Relation;
 use oracle::lent::{bytes_of_floats, words};
 use oracle::math::Vector;
-use oracle::shapes::{coords, round, Outline, KINDS};
+use oracle::shapes::{convex, coords, round, Outline, KINDS};
 use oracle::text::{self, multipolygon, polygon};
-use oracle::{ours, parry};
+use oracle::{expected, ours, parry};
 use std::hint::black_box;
 use std::time::Instant;
 
@@ -72,6 +74,10 @@ mod partitions {
     }
 }
 
+fn vectors(floats: &[f32]) -> Vec<Vector> {
+    floats.chunks_exact(2).map(|c| Vector { x: c[0], y: c[1] }).collect()
+}
+
 /// An outline in the forms in which both sides take it, with its triangles and room for what comes back.
 struct Case<'a> {
     kind: &'a str,
@@ -89,7 +95,7 @@ impl<'a> Case<'a> {
         let n = outline.len();
         let floats = coords(outline);
         let bytes = bytes_of_floats(&floats);
-        let points = floats.chunks_exact(2).map(|c| Vector { x: c[0], y: c[1] }).collect();
+        let points = vectors(&floats);
         let mut triangles = vec![0u8; 12 * (n - 2)];
         let answer = ours::triangulate_ear_clipping(&bytes, &mut triangles);
         assert_eq!(answer.number, 0, "{kind} of {n} corners is cut");
@@ -178,6 +184,22 @@ fn crate_fill(line: &[u8]) -> String {
     multipolygon(&areas.iter().map(|a| a.iter().map(corner).collect()).collect::<Vec<_>>())
 }
 
+fn measure_hull(kind: &str, points: &[(i32, i32)]) {
+    let floats = coords(points);
+    let (bytes, vectors) = (bytes_of_floats(&floats), vectors(&floats));
+    let mut indices = vec![0u8; 4 * points.len()];
+    let answer = ours::convex_hull2_idx(&bytes, &mut indices);
+    let relation = expected::beside_crate(&bytes, &indices[..4 * answer.count as usize]);
+    assert!(answer.number == 0 && relation != Relation::Other, "{kind} of {} points has one hull", points.len());
+    let ours = time(|| {
+        black_box(ours::convex_hull2_idx(black_box(&bytes), &mut indices));
+    });
+    let theirs = time(|| {
+        black_box(parry::convex_hull2_idx(black_box(&vectors)));
+    });
+    row(kind, points.len(), "hull", ours, theirs, partitions::NONE);
+}
+
 /// The time of a million roots in milliseconds: each by itself, and each of a radicand that the root before it gives.
 fn million(root: fn(u32) -> f32) -> (f64, f64) {
     let root = black_box(root);
@@ -213,6 +235,11 @@ fn main() {
     for (kind, shape) in KINDS.into_iter().chain([("round", round as fn(usize) -> Outline)]) {
         for n in [16, 64, 256, 512] {
             measure(kind, &shape(n));
+        }
+    }
+    for (kind, shape) in [("cloud", cloud as fn(usize) -> Outline), ("convex", convex)] {
+        for n in [16, 64, 512] {
+            measure_hull(kind, &shape(n));
         }
     }
     println!();

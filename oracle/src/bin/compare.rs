@@ -26,4 +26,5 @@ fn main() {
     }
     println!("oracle: {} random inputs from seed {seed}: no difference", side.inputs);
     println!("oracle: of them {} cuts accepted, {} where a point is passed twice, and {} lines filled", side.accepted, side.twice, side.filled);
+    println!("oracle: and {}", side.hulls);
 }

@@ -3,7 +3,8 @@ use native.Mathlib.Omega.{arith}
 use mathlib.Core.Path.{sym}
 use lib.Seq.{length-take-le}
 use denote.Ref.{now}
-use Rattle.hasplight.proofs.Cutting.{words-kept, cut-room, cut-kept}
+use Rattle.hasplight.proofs.Lending.{words-kept, room-for, gives}
+use Rattle.hasplight.proofs.Cutting.{cut-reports, cut-need}
 use borrow.Author.Needs.{needs}
 use Rattle.hasplight.proofs.cut.Statement.{statement}
 use Rattle.hasplight.proofs.cut.Tie as tie
@@ -35,7 +36,8 @@ start c = lent c .before .before .before
 slice-aggregate-write-words : tie.Need-slice-aggregate-write-words
 slice-aggregate-write-words c =
     let m = c .before .before in
-    words-kept _ (now (start m .args .indices)) _ _ _ (start m .pre) (lent m .least .ensures .0) (m .before .before .zeros .ensures .0) (m .triangulate-ear-clipping .ensures)
+    let p = m .triangulate-ear-clipping .ensures in
+    words-kept (cut-reports _) (cut-need _ (start m .pre)) (now (start m .args .indices)) _ _ _ (lent m .least .ensures .0) (m .before .before .zeros .ensures .0) (p .number) (p .count) (p .indices)
 
 tripled-requires : tie.Need-tripled-requires
 tripled-requires c κs = search needs
@@ -47,7 +49,8 @@ made c = c .before .before .before
 write-words-requires : tie.Need-write-words-requires
 write-words-requires c κs =
     let m = made (c .before) in
-    cut-room _ (now (start m .args .indices)) _ _ _ (start m .pre) (lent m .least .ensures .0) (m .before .before .zeros .ensures .0) (m .triangulate-ear-clipping .ensures) _ (c .before .tripled .ensures)
+    let p = m .triangulate-ear-clipping .ensures in
+    room-for (cut-reports _) (cut-need _ (start m .pre)) (now (start m .args .indices)) _ _ _ (lent m .least .ensures .0) (m .before .before .zeros .ensures .0) (p .number) (p .count) (p .indices) _ (c .before .tripled .ensures)
 
 same-length : tie.Need-same-length
 same-length c = search needs
@@ -57,7 +60,8 @@ returns c =
     let written = c .before .before in
     let counted = written .before .before in
     let m = made counted in
-    cut-kept _ (now (start m .args .indices)) _ _ _ (start m .pre) (lent m .least .ensures .0) (m .before .before .zeros .ensures .0) (m .triangulate-ear-clipping .ensures) _ (counted .tripled .ensures) (written .write-words .ensures)
+    let p = m .triangulate-ear-clipping .ensures in
+    gives (cut-reports _) (cut-need _ (start m .pre)) (now (start m .args .indices)) _ _ _ (lent m .least .ensures .0) (m .before .before .zeros .ensures .0) (p .number) (p .count) (p .indices) _ (counted .tripled .ensures) (written .write-words .ensures)
 
 pub cut-spec : {M : Type 1} → statement M
 cut-spec =
