@@ -180,10 +180,7 @@ lt-or-leℤ a b = go (ltZ a b) (λ t. record { lt = t }) (λ t. ltZ-no t)
     go true f g = inl (f tt)
     go false f g = inr (g tt)
 
--- ---- sums
-
-pub +ℤ-mono : {a b c d : ℤ} → a ≤ℤ b → c ≤ℤ d → (a +ℤ c) ≤ℤ (b +ℤ d)
-+ℤ-mono {a} {b} {c} {d} h k = omega (lin, at+ a c, at+ b d)
+-- ---- differences
 
 pub ≤ℤ→sub : {a b : ℤ} → a ≤ℤ b → pos 0 ≤ℤ (b -ℤ a)
 ≤ℤ→sub {a} {b} h = omega (lin, at- b a)

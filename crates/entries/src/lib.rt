@@ -73,6 +73,14 @@ pub fn place(x: u16) -> usize
     x as usize
 }
 
+// A place as half a word.
+pub fn narrow(x: usize) -> u16
+    requires { ⌜ x < 512 ⌝ }
+    ensures { λ r. ⌜ r ≡ x ⌝ }
+{
+    x as u16
+}
+
 // A word as a place or a size.
 pub fn wide(x: u32) -> usize
     ensures { λ r. ⌜ r ≡ x ⌝ }

@@ -2,13 +2,13 @@
 pub mod looks;
 pub mod ring;
 
+use entries::narrow;
+use entries::place;
 use looks::Look;
 use looks::look_at;
 use pieces::take_out;
 use ring::begin;
-use ring::narrow;
 use ring::put_between;
-use ring::wide;
 ghost use mathlib.Core.Path.{_≡_};
 ghost use mathlib.Core.Bool.{false};
 ghost use Prim.Native.Nat.{_<_, _≤_};
@@ -58,8 +58,8 @@ pub fn grow(
     let mut live = 3;
     let mut refused = 0;
     while refused < live {
-        let s = wide(queue[head % 1024]);
-        let e = wide(succ[s]);
+        let s = place(queue[head % 1024]);
+        let e = place(succ[s]);
         match look_at(coords, edges, eights, vert, succ, pred, a + 1, count, s, e) {
             Look::Lone => {
                 live -= 1;

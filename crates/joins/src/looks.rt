@@ -1,5 +1,5 @@
 // A look at a place of A: whether its edge has a mate in a later piece, and whether A may be joined with it.
-use crate::ring::wide;
+use entries::place;
 use grid::point_in_triangle::corner_direction;
 use pieces::Mate;
 use pieces::find_mate;
@@ -52,8 +52,8 @@ fn corner_beyond(vert: &[u16; 512], links: &[u16; 512], i: usize) -> usize
     requires { ⌜ (i < 512) × (getD (now links) i 0 < 512) ⌝ }
     ensures { λ r. ⌜ r ≡ getD (now (vert .entry)) (getD (now (links .entry)) i 0) 0 ⌝ }
 {
-    let place = wide(links[i]);
-    wide(vert[place])
+    let at = place(links[i]);
+    place(vert[at])
 }
 
 // At place s, behind which comes e: the mate of its edge among the pieces from number `from` on.
@@ -77,8 +77,8 @@ pub fn look_at(
         Looked (mayJoin (pointsOf (now (coords .entry)))) (now (edges .entry)) from count (now (vert .entry)) (now (succ .entry)) (now (pred .entry)) s e r
         ⌝ }
 {
-    let at_s = wide(vert[s]);
-    let at_e = wide(vert[e]);
+    let at_s = place(vert[s]);
+    let at_e = place(vert[e]);
     let m = find_mate(edges, eights, from, count, at_e, at_s);
     let Mate::Is { piece, third } = m else {
         return Look::Lone;

@@ -1,4 +1,5 @@
 // Piece A as a ring of places: the corner at each, the next place and the one before. A place once made keeps its number and its corner.
+use entries::narrow;
 ghost use mathlib.Core.Path.{_≡_};
 ghost use Prim.Native.Nat.{_<_, _≤_};
 ghost use lib.ListN.{length, set};
@@ -18,19 +19,6 @@ pub fn no_queue() -> [u16; 1024]
     ensures { λ r. ⌜ length r ≡ 1024 ⌝ }
 {
     [0u16; 1024]
-}
-
-pub fn wide(x: u16) -> usize
-    ensures { λ r. ⌜ r ≡ x ⌝ }
-{
-    x as usize
-}
-
-pub fn narrow(x: usize) -> u16
-    requires { ⌜ x < 512 ⌝ }
-    ensures { λ r. ⌜ r ≡ x ⌝ }
-{
-    x as u16
 }
 
 // A as the triangle that piece a is, at the places 0, 1 and 2, all in the queue. What stood in the arrays may stay.
@@ -92,7 +80,7 @@ pub fn write_ring(vert: &[u16; 512], succ: &[u16; 512], start: usize, len: usize
     let mut i = 0;
     while i < len {
         out[i] = entries::wide_half(vert[at]);
-        at = wide(succ[at]);
+        at = entries::place(succ[at]);
         i += 1;
     }
 }

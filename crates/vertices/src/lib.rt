@@ -4,6 +4,7 @@ pub mod ear;
 
 use ear::Triangle;
 use ear::update_vertex;
+use entries::narrow;
 use winners::Ear;
 use winners::build;
 use winners::put_leaf;
@@ -22,19 +23,6 @@ ghost use Rattle.winners.specs.Keys.{Nobody, Power};
 ghost use Rattle.vertices.specs.Ears.{earOf};
 ghost use Rattle.vertices.specs.Vertices.{state, place, on, linkedCorner, AtCorner, Clipped, Sized, Stands, Linked, Measured, Updated, lowestFrom, ringIn};
 
-fn wide(x: u16) -> usize
-    ensures { λ r. ⌜ r ≡ x ⌝ }
-{
-    x as usize
-}
-
-fn narrow(x: usize) -> u16
-    requires { ⌜ x < 512 ⌝ }
-    ensures { λ r. ⌜ r ≡ x ⌝ }
-{
-    x as u16
-}
-
 // Takes corner i out of the ring.
 fn unlink(prev: &mut [u16; 512], next: &mut [u16; 512], active: &mut [bool; 512], i: usize)
     requires { ⌜ i < 512 ⌝ }
@@ -45,8 +33,8 @@ fn unlink(prev: &mut [u16; 512], next: &mut [u16; 512], active: &mut [bool; 512]
 {
     let p = prev[i];
     let n = next[i];
-    let before = wide(p);
-    let after = wide(n);
+    let before = entries::place(p);
+    let after = entries::place(n);
     next[before] = n;
     prev[after] = p;
     active[i] = false;
@@ -82,8 +70,8 @@ fn ear_at(
     requires { ⌜ AtCorner (pointsOf (now coords)) (now prev) (now next) (now reciprocals) i ⌝ }
     ensures { λ r. ⌜ r ≡ earOf (pointsOf (now (coords .entry))) (linkedCorner (place (now (prev .entry))) (place (now (next .entry))) i) ⌝ }
 {
-    let before = wide(prev[i]);
-    let after = wide(next[i]);
+    let before = entries::place(prev[i]);
+    let after = entries::place(next[i]);
     let t = Triangle {
         before,
         at: i,
@@ -127,8 +115,8 @@ pub fn clip(
         (state (now (prev .exit)) (now (next .exit)) (now (active .exit)) (now (reciprocals .exit)) (now (val .exit)) (now (win .exit)))
         ⌝ }
 {
-    let before = wide(prev[i]);
-    let after = wide(next[i]);
+    let before = entries::place(prev[i]);
+    let after = entries::place(next[i]);
     unlink(prev, next, active, i);
     measure(coords, before, after, reciprocals);
     let e = ear_at(coords, xs, ys, strips, prev, next, reciprocals, before);
@@ -183,7 +171,7 @@ fn measure_all(coords: &[f32], n: usize, next: &[u16; 512], reciprocals: &mut [f
 {
     let mut i = 0;
     while i < n {
-        let j = wide(next[i]);
+        let j = entries::place(next[i]);
         measure(coords, i, j, reciprocals);
         i += 1;
     }

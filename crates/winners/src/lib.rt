@@ -1,5 +1,7 @@
 // The ear that is cut next: a tree of maxima over the corners. Node k has the children 2 k and 2 k + 1, and corner i is the leaf m + i, where m
 // is a power of two. A node holds the better of its children's ears, of equals the later, and its corner.
+use entries::narrow;
+use entries::place;
 ghost use mathlib.Core.Path.{_≡_};
 ghost use mathlib.Core.Bool.{true, false, cond};
 ghost use Prim.Native.Nat.{ℕ, _+_, _*_, _-_, _/_, _<_, _≤_};
@@ -24,19 +26,6 @@ pub struct Entry {
 pub enum Pick {
     Nothing,
     At(usize),
-}
-
-fn narrow(x: usize) -> u16
-    requires { ⌜ x < 512 ⌝ }
-    ensures { λ r. ⌜ r ≡ x ⌝ }
-{
-    x as u16
-}
-
-fn wide(x: u16) -> usize
-    ensures { λ r. ⌜ r ≡ x ⌝ }
-{
-    x as usize
 }
 
 // An ear's pointiness, and for none -2^24, which is below any.
@@ -211,6 +200,6 @@ pub fn pointiest(val: &[f32; 1024], win: &[u16; 1024]) -> Pick
 {
     match ear_of(val[1]) {
         Ear::No => Pick::Nothing,
-        Ear::Pointed(_) => Pick::At(wide(win[1])),
+        Ear::Pointed(_) => Pick::At(place(win[1])),
     }
 }

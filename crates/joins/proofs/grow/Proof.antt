@@ -31,13 +31,13 @@ start c = let third = c .before .before .before in third .before .before .before
 abbrev entry : tie.At-loop Inv-loop μ-loop → tie.Start Inv-loop μ-loop
 entry c = start (c .before .before)
 
-abbrev turn : tie.After-wide2 Inv-loop μ-loop → tie.In-loop Inv-loop μ-loop
+abbrev turn : tie.After-place2 Inv-loop μ-loop → tie.In-loop Inv-loop μ-loop
 turn c = c .before .before .before .before
 
-abbrev look : tie.After-look-at Inv-loop μ-loop → tie.After-wide2 Inv-loop μ-loop
+abbrev look : tie.After-look-at Inv-loop μ-loop → tie.After-place2 Inv-loop μ-loop
 look c = let third = c .before .before .before in third .before .before .before
 
-abbrev read : tie.After-look-at-arg5 Inv-loop μ-loop → tie.After-wide2 Inv-loop μ-loop
+abbrev read : tie.After-look-at-arg5 Inv-loop μ-loop → tie.After-place2 Inv-loop μ-loop
 read c = let third = c .before .before .before in third .before .before
 
 abbrev refusal : tie.After-narrow Inv-loop μ-loop → tie.After-look-at Inv-loop μ-loop
@@ -58,26 +58,26 @@ joined c = joins (taken (put c))
 -- ---- what is known there
 
 -- the turn, where the two places are read
-abbrev Turning : tie.After-wide2 Inv-loop μ-loop → Type 0
+abbrev Turning : tie.After-place2 Inv-loop μ-loop → Type 0
 Turning c =
     let l = turn c .before in
     let s = entry l .args in
     Turn (mayJoin (pointsOf (now (s .coords)))) (length (pointsOf (now (s .coords)))) (now (s .edges)) (s .a) (s .given)
     (l .loop .edges) (l .loop .eights) (l .loop .vert) (l .loop .succ) (l .loop .pred) (l .loop .queue)
-    (l .loop .count) (l .loop .start) (l .loop .len) (l .loop .head) (l .loop .live) (l .loop .refused) (c .before .before .wide .result) (c .wide2 .result)
+    (l .loop .count) (l .loop .start) (l .loop .len) (l .loop .head) (l .loop .live) (l .loop .refused) (c .before .before .place .result) (c .place2 .result)
 
-turning : (c : tie.After-wide2 Inv-loop μ-loop) → Turning c
-turning c = record { growing = turn c .before .loop .inv; more = turn c .loop-test .taken; is-s = c .before .before .wide .ensures; is-e = c .wide2 .ensures }
+turning : (c : tie.After-place2 Inv-loop μ-loop) → Turning c
+turning c = record { growing = turn c .before .loop .inv; more = turn c .loop-test .taken; is-s = c .before .before .place .ensures; is-e = c .place2 .ensures }
 
 -- and where only the first is
-head-low : (c : tie.After-wide Inv-loop μ-loop) → c .wide .result < 512
-head-low c = let l = c .before .before in head-place (l .before .loop .inv) (l .loop-test .taken) _ (c .wide .ensures)
+head-low : (c : tie.After-place Inv-loop μ-loop) → c .place .result < 512
+head-low c = let l = c .before .before in head-place (l .before .loop .inv) (l .loop-test .taken) _ (c .place .ensures)
 
 -- what the look has found
 abbrev Found : tie.After-look-at Inv-loop μ-loop → Look → Type 0
 Found c r =
     let l = turn (look c) .before in
-    Looked (mayJoin (pointsOf (now (entry l .args .coords)))) (l .loop .edges) (entry l .args .a + 1) (l .loop .count) (l .loop .vert) (l .loop .succ) (l .loop .pred) (look c .before .before .wide .result) (look c .wide2 .result) r
+    Looked (mayJoin (pointsOf (now (entry l .args .coords)))) (l .loop .edges) (entry l .args .a + 1) (l .loop .count) (l .loop .vert) (l .loop .succ) (l .loop .pred) (look c .before .before .place .result) (look c .place2 .result) r
 
 found : (c : tie.After-look-at Inv-loop μ-loop) (r : Look) → c .look-at .result ≡ r → Found c r
 found c r is = looked-is _ _ _ _ _ _ _ _ _ (c .look-at .result) is (c .look-at .ensures)
@@ -104,23 +104,23 @@ begin-requires c κs =
 loop-holds : tie.Need-loop-holds Inv-loop μ-loop
 loop-holds c = let p = start (c .before) .pre .1 in grow-first _ _ _ _ _ _ (p .0 .0) (p .0 .1) (p .1 .0 .0) _ _ _ _ (c .begin .ensures)
 
-mul-wide : tie.Need-mul-wide Inv-loop μ-loop
-mul-wide c = omega arith
+mul-place : tie.Need-mul-place Inv-loop μ-loop
+mul-place c = omega arith
 
-element-copy-out-wide : tie.Need-element-copy-out-wide Inv-loop μ-loop
-element-copy-out-wide c = omega arith
+element-copy-out-place : tie.Need-element-copy-out-place Inv-loop μ-loop
+element-copy-out-place c = omega arith
 
-wide-requires : tie.Need-wide-requires Inv-loop μ-loop
-wide-requires c κs = search needs
+place-requires : tie.Need-place-requires Inv-loop μ-loop
+place-requires c κs = search needs
 
-mul-wide-2 : tie.Need-mul-wide-2 Inv-loop μ-loop
-mul-wide-2 c = omega (arith, head-low c)
+mul-place-2 : tie.Need-mul-place-2 Inv-loop μ-loop
+mul-place-2 c = omega (arith, head-low c)
 
-element-copy-out-wide-2 : tie.Need-element-copy-out-wide-2 Inv-loop μ-loop
-element-copy-out-wide-2 c = omega (arith, head-low c)
+element-copy-out-place-2 : tie.Need-element-copy-out-place-2 Inv-loop μ-loop
+element-copy-out-place-2 c = omega (arith, head-low c)
 
-wide-requires-2 : tie.Need-wide-requires-2 Inv-loop μ-loop
-wide-requires-2 c κs = search needs
+place-requires-2 : tie.Need-place-requires-2 Inv-loop μ-loop
+place-requires-2 c κs = search needs
 
 add-look-at : tie.Need-add-look-at Inv-loop μ-loop
 add-look-at c = let l = turn (read c) .before in omega (arith, l .loop .inv .behind, l .loop .inv .lie .few)
@@ -260,12 +260,12 @@ grow-spec =
     μ-loop
     begin-requires
     loop-holds
-    mul-wide
-    element-copy-out-wide
-    wide-requires
-    mul-wide-2
-    element-copy-out-wide-2
-    wide-requires-2
+    mul-place
+    element-copy-out-place
+    place-requires
+    mul-place-2
+    element-copy-out-place-2
+    place-requires-2
     add-look-at
     look-at-requires
     enum-told

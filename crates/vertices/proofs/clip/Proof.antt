@@ -13,10 +13,10 @@ use Rattle.vertices.proofs.clip.Tie as tie
 
 -- ---- the places of the code, each from a later one
 
-abbrev after-read : tie.After-unlink → tie.After-wide2
+abbrev after-read : tie.After-unlink → tie.After-place2
 after-read c = c .before .before .before .before
 
-abbrev start : tie.After-wide2 → tie.Start
+abbrev start : tie.After-place2 → tie.Start
 start c = c .before .before .before .before .before
 
 abbrev unlinked : tie.After-measure → tie.After-unlink
@@ -46,43 +46,43 @@ near : (s : tie.Start) → (place (now (s .args .prev)) (s .args .i) < s .args .
 near s = let p = s .pre .1 .1 in p .1 .1 .1 .ringed .within (s .args .i) (p .1 .0 .0)
 
 -- the cut corner and its neighbours have leaves, by the numbers that the code reads
-leaves : (c : tie.After-wide2) → (c .before .before .wide .result < start c .args .m) × (c .wide2 .result < start c .args .m) × (start c .args .i < start c .args .m)
+leaves : (c : tie.After-place2) → (c .before .before .place .result < start c .args .m) × (c .place2 .result < start c .args .m) × (start c .args .i < start c .args .m)
 leaves c =
     let w = near (start c) in
     let p = start c .pre .1 .1 .1 in
     let room = p .1 .1 .eared .room in
-    (omega (arith, w .0, room, c .before .before .wide .ensures), omega (arith, w .1, room, c .wide2 .ensures), omega (arith, p .0 .0, room))
+    (omega (arith, w .0, room, c .before .before .place .ensures), omega (arith, w .1, room, c .place2 .ensures), omega (arith, p .0 .0, room))
 
-mul-wide : tie.Need-mul-wide
-mul-wide c = search needs
+mul-place : tie.Need-mul-place
+mul-place c = search needs
 
-element-copy-out-wide : tie.Need-element-copy-out-wide
-element-copy-out-wide c = search needs
+element-copy-out-place : tie.Need-element-copy-out-place
+element-copy-out-place c = search needs
 
-wide-requires : tie.Need-wide-requires
-wide-requires c κs = search needs
+place-requires : tie.Need-place-requires
+place-requires c κs = search needs
 
-mul-wide-2 : tie.Need-mul-wide-2
-mul-wide-2 c = search needs
+mul-place-2 : tie.Need-mul-place-2
+mul-place-2 c = search needs
 
-element-copy-out-wide-2 : tie.Need-element-copy-out-wide-2
-element-copy-out-wide-2 c = search needs
+element-copy-out-place-2 : tie.Need-element-copy-out-place-2
+element-copy-out-place-2 c = search needs
 
-wide-requires-2 : tie.Need-wide-requires-2
-wide-requires-2 c κs = search needs
+place-requires-2 : tie.Need-place-requires-2
+place-requires-2 c κs = search needs
 
 -- what the ears of both neighbours are worked out from, as the code reads it
 corners : (c : tie.After-measure)
     → let a = start (after-read (unlinked c)) .args in let u = unlinked c .unlink in
-    AtCorner (pointsOf (now (a .coords))) (u .last .0) (u .last .1 .0) (c .measure .last .1 .1 .1 .0) (after-read (unlinked c) .before .before .wide .result)
-    × AtCorner (pointsOf (now (a .coords))) (u .last .0) (u .last .1 .0) (c .measure .last .1 .1 .1 .0) (after-read (unlinked c) .wide2 .result)
+    AtCorner (pointsOf (now (a .coords))) (u .last .0) (u .last .1 .0) (c .measure .last .1 .1 .1 .0) (after-read (unlinked c) .before .before .place .result)
+    × AtCorner (pointsOf (now (a .coords))) (u .last .0) (u .last .1 .0) (c .measure .last .1 .1 .1 .0) (after-read (unlinked c) .place2 .result)
 corners c =
     let read = after-read (unlinked c) in
     let s = start read in
     let p = s .pre .1 .1 in
     let u = unlinked c .unlink .ensures in
-    let b = read .before .before .wide .ensures in
-    let f = read .wide2 .ensures in (
+    let b = read .before .before .place .ensures in
+    let f = read .place2 .ensures in (
       at-before _ (s .args .n) (lent s) (p .1 .1 .1 .ringed) (p .0 .0) (p .0 .1) (s .args .i) (p .1 .0 .0) (p .1 .0 .1) (p .1 .1 .0) _ _ b f _ _ _ _ (u .0) (u .1 .0) (u .1 .1) (c .measure .ensures),
       at-after _ (s .args .n) (lent s) (p .1 .1 .1 .ringed) (p .0 .0) (p .0 .1) (s .args .i) (p .1 .0 .0) (p .1 .0 .1) (p .1 .1 .0) _ _ b f _ _ _ _ (u .0) (u .1 .0) (u .1 .1) (c .measure .ensures),
     )
@@ -100,8 +100,8 @@ measure-requires c κs =
     let s = start read in
     let w = near s in
     let size = s .pre .1 .1 .0 in
-    let b = read .before .before .wide .ensures in
-    let f = read .wide2 .ensures in
+    let b = read .before .before .place .ensures in
+    let f = read .place2 .ensures in
     (s .pre .0, (omega (arith, w .0, size, b), omega (arith, w .0, size, b), omega (arith, w .1, size, f)))
 
 ear-at-requires : tie.Need-ear-at-requires
@@ -147,7 +147,7 @@ returns c =
     let s = start read in
     let p = s .pre .1 .1 in
     let u = unlinked m .unlink .ensures in
-    clip-is _ (s .args .n) (lent s) (p .1 .1 .1 .ringed) (p .0 .0) (p .0 .1) (s .args .i) (p .1 .0 .0) (p .1 .0 .1) (p .1 .1 .0) _ _ (read .before .before .wide .ensures) (read .wide2 .ensures)
+    clip-is _ (s .args .n) (lent s) (p .1 .1 .1 .ringed) (p .0 .0) (p .0 .1) (s .args .i) (p .1 .0 .0) (p .1 .0 .1) (p .1 .1 .0) _ _ (read .before .before .place .ensures) (read .place2 .ensures)
     _ _ _ _ (u .0) (u .1 .0) (u .1 .1) (m .measure .ensures) (s .args .m) (p .1 .1 .1 .eared) _ _ (before-worked worked .ear-at .ensures) (worked .ear-at2 .ensures)
     _ _ _ _ _ _ (second .set-ear .ensures .1) (third .set-ear2 .ensures .1) (c .set-ear3 .ensures .1) (c .set-ear3 .ensures .0)
 
@@ -155,12 +155,12 @@ pub clip-spec : {M : Type 1} → statement M
 clip-spec =
     tie.close
     (tie.spec
-    mul-wide
-    element-copy-out-wide
-    wide-requires
-    mul-wide-2
-    element-copy-out-wide-2
-    wide-requires-2
+    mul-place
+    element-copy-out-place
+    place-requires
+    mul-place-2
+    element-copy-out-place-2
+    place-requires-2
     unlink-requires
     measure-requires
     ear-at-requires

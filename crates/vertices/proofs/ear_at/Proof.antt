@@ -17,23 +17,23 @@ use Rattle.vertices.proofs.ear_at.Tie as tie
 found : (ps : List Pt) (p q : List ℕ) (i b f : ℕ) → b ≡ place p i → f ≡ place q i → (e : Ear) → e ≡ earOf ps (record { before = b; at = i; after = f }) → e ≡ earOf ps (linkedCorner (place p) (place q) i)
 found ps p q i b f x y e g = g ∙ rw (x, y)
 
-mul-wide : tie.Need-mul-wide
-mul-wide c = search needs
+mul-place : tie.Need-mul-place
+mul-place c = search needs
 
-element-copy-out-wide : tie.Need-element-copy-out-wide
-element-copy-out-wide c = search needs
+element-copy-out-place : tie.Need-element-copy-out-place
+element-copy-out-place c = search needs
 
-wide-requires : tie.Need-wide-requires
-wide-requires c κs = search needs
+place-requires : tie.Need-place-requires
+place-requires c κs = search needs
 
-mul-wide-2 : tie.Need-mul-wide-2
-mul-wide-2 c = search needs
+mul-place-2 : tie.Need-mul-place-2
+mul-place-2 c = search needs
 
-element-copy-out-wide-2 : tie.Need-element-copy-out-wide-2
-element-copy-out-wide-2 c = search needs
+element-copy-out-place-2 : tie.Need-element-copy-out-place-2
+element-copy-out-place-2 c = search needs
 
-wide-requires-2 : tie.Need-wide-requires-2
-wide-requires-2 c κs = search needs
+place-requires-2 : tie.Need-place-requires-2
+place-requires-2 c κs = search needs
 
 mul-update-vertex : tie.Need-mul-update-vertex
 mul-update-vertex c = search needs
@@ -53,8 +53,8 @@ update-vertex-requires c κs =
     let before = after .before .before in
     let s = before .before .before .before in
     let at = s .pre .1 .1 in
-    let b = before .wide .ensures in
-    let f = after .wide2 .ensures in
+    let b = before .place .ensures in
+    let f = after .place2 .ensures in
     (s .pre .0, (s .pre .1 .0, (record { before = rw b (at .before-low); at = at .low; after = rw f (at .after-low) }, (rw b (at .before), rw f (at .after)))))
 
 returns : tie.Need-returns
@@ -62,18 +62,18 @@ returns c =
     let after = c .before .before .before in
     let before = after .before .before in
     let a = before .before .before .before .args in
-    found (pointsOf (now (a .coords))) (now (a .prev)) (now (a .next)) (a .i) _ _ (before .wide .ensures) (after .wide2 .ensures) _ (c .update-vertex .ensures)
+    found (pointsOf (now (a .coords))) (now (a .prev)) (now (a .next)) (a .i) _ _ (before .place .ensures) (after .place2 .ensures) _ (c .update-vertex .ensures)
 
 pub ear-at-spec : {M : Type 1} → statement M
 ear-at-spec =
     tie.close
     (tie.spec
-    mul-wide
-    element-copy-out-wide
-    wide-requires
-    mul-wide-2
-    element-copy-out-wide-2
-    wide-requires-2
+    mul-place
+    element-copy-out-place
+    place-requires
+    mul-place-2
+    element-copy-out-place-2
+    place-requires-2
     mul-update-vertex
     element-copy-out-update-vertex
     mul-update-vertex-2

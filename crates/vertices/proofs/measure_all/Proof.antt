@@ -17,14 +17,14 @@ abbrev μ-loop : tie.MeasureT-loop
 loop-holds : tie.Need-loop-holds Inv-loop μ-loop
 loop-holds c = (omega arith, record { long = c .before .pre .1 .1 .0; lengths = λ j l. absurd (omega arith) })
 
-mul-wide : tie.Need-mul-wide Inv-loop μ-loop
-mul-wide c = let p = c .before .before .before .pre .1 .0 in omega (arith, p .0, c .loop-test .taken)
+mul-place : tie.Need-mul-place Inv-loop μ-loop
+mul-place c = let p = c .before .before .before .pre .1 .0 in omega (arith, p .0, c .loop-test .taken)
 
-element-copy-out-wide : tie.Need-element-copy-out-wide Inv-loop μ-loop
-element-copy-out-wide c = let p = c .before .before .before .pre .1 .0 in omega (arith, p .0, c .loop-test .taken)
+element-copy-out-place : tie.Need-element-copy-out-place Inv-loop μ-loop
+element-copy-out-place c = let p = c .before .before .before .pre .1 .0 in omega (arith, p .0, c .loop-test .taken)
 
-wide-requires : tie.Need-wide-requires Inv-loop μ-loop
-wide-requires c κs = tt
+place-requires : tie.Need-place-requires Inv-loop μ-loop
+place-requires c κs = tt
 
 measure-requires : tie.Need-measure-requires Inv-loop μ-loop
 measure-requires c κs =
@@ -34,7 +34,7 @@ measure-requires c κs =
     let to = s .pre .1 .1 .1 (l .i) (test .loop-test .taken) in
     let size = s .pre .1 .0 in (
       s .pre .0,
-      (omega (arith, size .0, test .loop-test .taken), omega (arith, size .1, test .loop-test .taken), omega (arith, size .1, to, c .before .wide .ensures)),
+      (omega (arith, size .0, test .loop-test .taken), omega (arith, size .1, test .loop-test .taken), omega (arith, size .1, to, c .before .place .ensures)),
     )
 
 add-i : tie.Need-add-i Inv-loop μ-loop
@@ -49,7 +49,7 @@ loop-again c =
     let l = test .before .loop in
     let t = test .loop-test .taken in
     let low : l .i < 512 = omega (arith, test .before .before .before .pre .1 .0 .0, t) in
-    (omega (arith, t), measured-more _ _ _ _ _ _ low (c .before .before .wide .ensures) (c .measure .ensures) (l .inv .1))
+    (omega (arith, t), measured-more _ _ _ _ _ _ low (c .before .before .place .ensures) (c .measure .ensures) (l .inv .1))
 
 returns : tie.Need-returns Inv-loop μ-loop
 returns c =
@@ -64,9 +64,9 @@ measure-all-spec =
     Inv-loop
     μ-loop
     loop-holds
-    mul-wide
-    element-copy-out-wide
-    wide-requires
+    mul-place
+    element-copy-out-place
+    place-requires
     measure-requires
     add-i
     loop-less

@@ -20,11 +20,11 @@ mul-n c = search needs
 element-copy-out-n : tie.Need-element-copy-out-n
 element-copy-out-n c = search needs
 
-wide-requires : tie.Need-wide-requires
-wide-requires c κs = search needs
+place-requires : tie.Need-place-requires
+place-requires c κs = search needs
 
-wide-requires-2 : tie.Need-wide-requires-2
-wide-requires-2 c κs = search needs
+place-requires-2 : tie.Need-place-requires-2
+place-requires-2 c κs = search needs
 
 mul-next : tie.Need-mul-next
 mul-next c = search needs
@@ -44,8 +44,8 @@ element-write-active c = search needs
 returns : tie.Need-returns
 returns c =
     let a = c .before .before .before .before .args in (
-      ap (λ (x : ℕ). set (now (a .prev)) x (place (now (a .prev)) (a .i))) (c .wide2 .ensures),
-      (ap (λ (x : ℕ). set (now (a .next)) x (place (now (a .next)) (a .i))) (c .before .wide .ensures), refl),
+      ap (λ (x : ℕ). set (now (a .prev)) x (place (now (a .prev)) (a .i))) (c .place2 .ensures),
+      (ap (λ (x : ℕ). set (now (a .next)) x (place (now (a .next)) (a .i))) (c .before .place .ensures), refl),
     )
 
 pub unlink-spec : {M : Type 1} → statement M
@@ -56,8 +56,8 @@ unlink-spec =
     element-copy-out-p
     mul-n
     element-copy-out-n
-    wide-requires
-    wide-requires-2
+    place-requires
+    place-requires-2
     mul-next
     element-write-next
     mul-prev

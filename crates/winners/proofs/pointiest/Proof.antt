@@ -39,11 +39,11 @@ enum-told c = search needs
 enum-told-2 : tie.Need-enum-told-2
 enum-told-2 c = search needs
 
-element-copy-out-wide : tie.Need-element-copy-out-wide
-element-copy-out-wide c = search needs
+element-copy-out-place : tie.Need-element-copy-out-place
+element-copy-out-place c = search needs
 
-wide-requires : tie.Need-wide-requires
-wide-requires c κs = search needs
+place-requires : tie.Need-place-requires
+place-requires c κs = search needs
 
 returns : tie.Need-returns
 returns c =
@@ -55,7 +55,7 @@ returns-2 : tie.Need-returns-2
 returns-2 c =
     let told = c .before .before .before .before in
     let s = told .before .before .args in
-    some (now (s .val)) (now (s .win)) (told .ear-of .result) (told .ear-of .ensures) _ (c .before .before .enum-told2 .given .1) _ (c .wide .ensures)
+    some (now (s .val)) (now (s .win)) (told .ear-of .result) (told .ear-of .ensures) _ (c .before .before .enum-told2 .given .1) _ (c .place .ensures)
 
 pub pointiest-spec : {M : Type 1} → statement M
 pointiest-spec =
@@ -65,7 +65,7 @@ pointiest-spec =
     ear-of-requires
     enum-told
     enum-told-2
-    element-copy-out-wide
-    wide-requires
+    element-copy-out-place
+    place-requires
     returns
     returns-2)

@@ -43,14 +43,14 @@ mul-out c = let l = c .before .before in omega (arith, size (l .before), l .loop
 slice-write-out : tie.Need-slice-write-out Inv-loop μ-loop
 slice-write-out c = let l = c .before .before in omega (arith, size (l .before), l .loop-test .taken, entry (l .before) .pre .1)
 
-mul-wide : tie.Need-mul-wide Inv-loop μ-loop
-mul-wide c = omega (arith, low (c .before .before))
+mul-place : tie.Need-mul-place Inv-loop μ-loop
+mul-place c = omega (arith, low (c .before .before))
 
-element-copy-out-wide : tie.Need-element-copy-out-wide Inv-loop μ-loop
-element-copy-out-wide c = omega (arith, low (c .before .before))
+element-copy-out-place : tie.Need-element-copy-out-place Inv-loop μ-loop
+element-copy-out-place c = omega (arith, low (c .before .before))
 
-wide-requires : tie.Need-wide-requires Inv-loop μ-loop
-wide-requires c κs = search needs
+place-requires : tie.Need-place-requires Inv-loop μ-loop
+place-requires c κs = search needs
 
 add-i : tie.Need-add-i Inv-loop μ-loop
 add-i c = omega arith
@@ -62,7 +62,7 @@ loop-again : tie.Need-loop-again Inv-loop μ-loop
 loop-again c =
     let read = c .before .before in
     let l = read .before .before in
-    writing-more _ _ _ _ _ (entry (l .before) .pre .1) _ _ _ (l .before .loop .inv) (l .loop-test .taken) _ _ (read .wide-half .ensures) (c .wide .ensures)
+    writing-more _ _ _ _ _ (entry (l .before) .pre .1) _ _ _ (l .before .loop .inv) (l .loop-test .taken) _ _ (read .wide-half .ensures) (c .place .ensures)
 
 same-length : tie.Need-same-length Inv-loop μ-loop
 same-length c = size (c .before)
@@ -82,9 +82,9 @@ write-ring-spec =
     wide-half-requires
     mul-out
     slice-write-out
-    mul-wide
-    element-copy-out-wide
-    wide-requires
+    mul-place
+    element-copy-out-place
+    place-requires
     add-i
     loop-less
     loop-again
