@@ -1,9 +1,9 @@
-//! What must come back: the refusals in document 01's order, and on accepted input what the crate gives; of a cut where a point is passed
-//! twice, what request M-103 gives, and of a hull, what request M-104 gives.
+//! What must come back: the refusals in document 01's order, with request M-105's between 5 and 6, and on accepted input what the crate
+//! gives; of a cut where a point is passed twice, what request M-103 gives, and of a hull, what request M-104 gives.
 use crate::hull::{self, Relation};
 use crate::lent::{bytes_of, words};
 use crate::math::Vector;
-use crate::plane::whole;
+use crate::plane::{area2, whole};
 use crate::{cutter, parry};
 
 #[repr(C)]
@@ -73,6 +73,9 @@ pub fn triangulate_ear_clipping(coords: &[u8], indices: &mut [u8]) -> Answer {
     }
     if equal_neighbours(&ps) {
         return refused(5);
+    }
+    if area2(&whole(&ps)) <= 0 {
+        return refused(13);
     }
     if indices.len() / 4 < 3 * (ps.len() - 2) {
         return refused(6);

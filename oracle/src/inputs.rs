@@ -3,7 +3,7 @@ use crate::clouds;
 use crate::expected::MOST;
 use crate::lent::{bytes_of, bytes_of_floats};
 use crate::random::Random;
-use crate::shapes::{coords, Outline, KINDS};
+use crate::shapes::{coords, counter_clockwise, Outline, KINDS};
 use crate::slots;
 
 pub trait Side {
@@ -81,7 +81,7 @@ fn number(r: &mut Random) -> usize {
     }
 }
 
-/// Corners of one of the shapes or at random, or with slots.
+/// Corners of one of the shapes or at random, most often counter-clockwise, or with slots.
 pub fn random_outline(r: &mut Random) -> Outline {
     if r.below(4) == 0 {
         return slots::random(r);
@@ -90,7 +90,11 @@ pub fn random_outline(r: &mut Random) -> Outline {
     if n >= 4 && r.below(2) == 0 {
         return KINDS[r.below(KINDS.len())].1(n);
     }
-    clouds::some_square(r, n)
+    let outline = clouds::some_square(r, n);
+    if r.below(4) == 0 {
+        return outline;
+    }
+    counter_clockwise(outline)
 }
 
 /// A room of about so many bytes.

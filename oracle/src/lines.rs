@@ -1,6 +1,7 @@
 //! Lines for the comparison: outlines as text, and damaged ones.
 use crate::inputs::{about, random_outline};
 use crate::random::Random;
+use crate::shapes::round_the_grid;
 use crate::text::polygon;
 
 /// A line whose first and last point have so many digits.
@@ -25,7 +26,7 @@ pub fn fixed() -> Vec<Vec<u8>> {
         "POLYGON ((0 0, 4 0, 4 4, 0 4, 0 0))", "POLYGON ((0 0, 4 0, 0 4, 0 0))", "POLYGON ((99999 0, 1 0, 1 1, 88888 0))", "POLYGON ((99999 0, 1 0, 1 1, 99999 0))",
         "POLYGON ((5 5, 5 5))", "POLYGON ((5 5))", "POLYGON ((5 5, 6 6, 5 5))", "POLYGON ((00 0, 4 0, 0 4, 00 0))", "POLYGON ((-0 0, 4 0, 0 4, -0 0))", "POLYGON ((+1 0, 4 0, 0 4, +1 0))",
         "POLYGON ((0 0, 1024 0, 0 -1024, 0 0))", "POLYGON ((0 0, 1025 0, 0 4, 0 0))", "POLYGON ((0 0, -1025 0, 0 4, 0 0))", "POLYGON ((0 0, 0 0, 4 0, 0 0))",
-        "POLYGON ((0 0, 0 4, 4 4, 4 0, 0 0))", "POLYGON ((0 0, 1 0, 2 0, 3 0, 0 0))", "POLYGON((0 0, 4 0, 0 4, 0 0))", "polygon ((0 0, 4 0, 0 4, 0 0))", "POLYGON ((0 0,4 0,0 4,0 0))",
+        "POLYGON ((0 0, 0 4, 4 4, 4 0, 0 0))", "POLYGON ((0 0, 1 0, 2 0, 3 0, 0 0))", "POLYGON ((0 0, 0 4, 4 0, 0 0))", "POLYGON ((0 0, 0 1, 1 1, 2 0, 0 2, 0 0))", "POLYGON ((0 0, 0 1, 1 0, 1 2, 0 0))", "POLYGON((0 0, 4 0, 0 4, 0 0))", "polygon ((0 0, 4 0, 0 4, 0 0))", "POLYGON ((0 0,4 0,0 4,0 0))",
         "POLYGON ((0  0, 4 0, 0 4, 0 0))", "POLYGON ((0\t0, 4 0, 0 4, 0 0))", "POLYGON ((0 0, 4 0, 0 4, 0 0)) ", "POLYGON ((0 0, 4 0, 0 4, 0 0))\r", "POLYGON ((0 0, 4 0, 0 4, 0 0), (1 1, 2 1, 1 2, 1 1))",
         "POLYGON ((0 0, 1 0, 0 0, 0 1, 0 0))", "POLYGON ((0 0, 4 0, 4 4, 0 4, 4 0, 0 0))", "POLYGON ((0 0, 3 0, 3 3, 0 3, 0 0, 1 1, 1 2, 2 2, 2 1, 1 1, 0 0))",
         "POLYGON EMPTY", "POLYGON (())", "POLYGON ((", "POLYGON ((0 0, 4 0, 0 4, 0 0)", "", " ", "11",
@@ -34,6 +35,7 @@ pub fn fixed() -> Vec<Vec<u8>> {
     lines.extend(EXAMPLES.map(|text| text.trim_end().as_bytes().to_vec()));
     lines.push(long(4082, "1"));
     lines.push(long(4082, "10"));
+    lines.extend([1024, -1024].map(|right| polygon(&round_the_grid(128, right)).into_bytes()));
     for (corners, end) in [(512, "0 0))"), (513, "0 0))"), (513, "0 0) )"), (514, "0 1))")] {
         lines.push(["POLYGON ((".to_string(), "0 0, ".repeat(corners), end.to_string()].concat().into_bytes());
     }

@@ -1,4 +1,5 @@
 //! Outlines on the grid, counter-clockwise, by their number of corners.
+use crate::plane::{area2, Point};
 use std::f64::consts::TAU;
 
 pub type Outline = Vec<(i32, i32)>;
@@ -8,6 +9,20 @@ pub const KINDS: [(&str, fn(usize) -> Outline); 5] =
 
 pub fn coords(outline: &[(i32, i32)]) -> Vec<f32> {
     outline.iter().flat_map(|&(x, y)| [x as f32, y as f32]).collect()
+}
+
+/// The other way round where the area is below 0.
+pub fn counter_clockwise(mut outline: Outline) -> Outline {
+    let points: Vec<Point> = outline.iter().map(|&(x, y)| (x.into(), y.into())).collect();
+    if area2(&points) < 0 {
+        outline.reverse();
+    }
+    outline
+}
+
+/// The corners of the grid so many times, with its right side at `right`: clockwise where that is below 0.
+pub fn round_the_grid(times: usize, right: i32) -> Outline {
+    [(-right, -1024), (right, -1024), (right, 1024), (-right, 1024)].repeat(times)
 }
 
 fn polar(n: usize, radius: impl Fn(usize, f64) -> f64) -> Outline {

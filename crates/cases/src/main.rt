@@ -96,19 +96,41 @@ fn spots_of_many(border: &[f32]) {
 // The limits of the cutter, and its worst shapes.
 fn outlines() {
     let none = [0.0f32; 0];
-    let straight = [0.0f32, 0.0, 1.0, 0.0, 2.0, 0.0, 3.0, 0.0];
     let twice = [0.0f32, 0.0, 0.0, 0.0, 4.0, 0.0];
-    let clockwise = [0.0f32, 0.0, 0.0, 4.0, 4.0, 0.0];
     let still_blocks = [0.0f32, 0.0, 1.0, 0.0, 0.0, 1.0, 2.0, 0.0, 2.0, 2.0];
     cut(b"no corners", &none, &mut [9u32; 0]);
-    cut(b"four on a line", &straight, &mut [9u32; 6]);
     cut(b"two equal neighbours and no room", &twice, &mut [9u32; 0]);
-    cut(b"a clockwise triangle", &clockwise, &mut [9u32; 3]);
     cut(
         b"a cut point that still blocks",
         &still_blocks,
         &mut [9u32; 9],
     );
+}
+
+// Areas that are not above zero, and one that is though the last triangle goes clockwise.
+fn outlines_by_area() {
+    let clockwise = [0.0f32, 0.0, 0.0, 4.0, 4.0, 0.0];
+    let straight = [0.0f32, 0.0, 1.0, 0.0, 2.0, 0.0, 3.0, 0.0];
+    let back = [0.0f32, 0.0, 1.0, 0.0, 0.0, 0.0, 0.0, 1.0];
+    let crossed_over = [0.0f32, 0.0, 0.0, 1.0, 1.0, 0.0, 1.0, 2.0];
+    cut(b"a clockwise triangle", &clockwise, &mut [9u32; 3]);
+    cut(b"the same with no room", &clockwise, &mut [9u32; 0]);
+    cut(b"four on a line", &straight, &mut [9u32; 6]);
+    cut(b"there and back", &back, &mut [9u32; 6]);
+    cut(
+        b"a last triangle that is clockwise",
+        &crossed_over,
+        &mut [9u32; 6],
+    );
+}
+
+// No ear at the first, and after one cut.
+fn outlines_without_ear() {
+    let none = [0.0f32, 0.0, 0.0, 1.0, 1.0, 1.0, 2.0, 0.0, 0.0, 2.0];
+    let later = [0.0f32, 0.0, 1.0, 1.0, 0.0, 1.0, 2.0, 0.0, 0.0, 2.0];
+    cut(b"no ear", &none, &mut [9u32; 9]);
+    cut(b"the same with a slot too few", &none, &mut [9u32; 8]);
+    cut(b"no ear after one cut", &later, &mut [9u32; 9]);
 }
 
 // At 512 and 513 corners, and the worst shapes.
@@ -118,6 +140,12 @@ fn outlines_of_many(border: &[f32], comb: &[f32], spiral: &[f32]) {
     cut_large(b"1025 coordinates", front(border, 1025));
     cut_large(b"a comb of 512 corners", comb);
     cut_large(b"a spiral of 64 corners", spiral);
+}
+
+// The largest area and the smallest.
+fn largest_areas(round: &[f32; 1024], backwards: &[f32; 1024]) {
+    cut_large(b"128 times round the grid", round);
+    cut_large(b"the same backwards", backwards);
 }
 
 // The limits of the merger.
@@ -274,10 +302,13 @@ fn main() {
     spots_on_the_grid();
     text(b"\nOutlines\n");
     outlines();
+    outlines_by_area();
+    outlines_without_ear();
     text(b"\nTriangle lists\n");
     triangle_lists();
     lists_of_many();
     many(&shapes::border(), &shapes::comb(), &shapes::spiral());
+    largest_areas(&shapes::round_the_grid(1.0), &shapes::round_the_grid(-1.0));
     text(b"\nClouds\n");
     clouds();
     clouds_refused(&shapes::border());

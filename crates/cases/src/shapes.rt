@@ -23,6 +23,23 @@ pub fn border() -> [f32; 1026] {
     coords
 }
 
+// 512 points: the corners of the grid 128 times, each a quarter turn from the one before it, counter-clockwise by 1 and clockwise by -1.
+pub fn round_the_grid(turn: f32) -> [f32; 1024] {
+    let mut coords = [0.0f32; 1024];
+    let mut x = -1024.0f32;
+    let mut y = -1024.0f32;
+    let mut i = 0;
+    while i < 512 {
+        coords[i * 2] = x;
+        coords[i * 2 + 1] = y;
+        let next = turn * x;
+        x = 0.0 - turn * y;
+        y = next;
+        i += 1;
+    }
+    coords
+}
+
 // 512 points: a straight back, and teeth from right to left.
 pub fn comb() -> [f32; 1024] {
     let mut coords = [0.0f32; 1024];

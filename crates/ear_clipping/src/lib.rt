@@ -7,6 +7,7 @@ use entries::MOST_INDICES;
 use entries::MOST_POINTS;
 use entries::wide_half;
 use entries::zeros;
+use grid::area::area2;
 use grid::outline::outline_refusal;
 use vertices::clip;
 use vertices::lowest;
@@ -49,7 +50,7 @@ fn equal_neighbours(coords: &[f32]) -> bool
     a.same(first)
 }
 
-// The number of the first refusal from 1 to 6 that applies, and 0 where none does.
+// The number of the first refusal before 7 that applies, and 0 where none does.
 fn refusal(coords: &[f32], room: usize) -> u32
     ensures { λ r. ⌜ r ≡ firstRefusal (beforeCutting (now (coords .entry)) room) ⌝ }
 {
@@ -59,6 +60,9 @@ fn refusal(coords: &[f32], room: usize) -> u32
     }
     if equal_neighbours(coords) {
         return 5;
+    }
+    if area2(coords) <= 0 {
+        return 13;
     }
     let n = coords.len() / 2;
     if room < 3 * (n - 2) {

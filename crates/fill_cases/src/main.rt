@@ -26,12 +26,14 @@ fn refused_by_numbers() {
     lines(b"POLYGON ((99999 0, 1 0, 1 1, 99999 0))");
 }
 
-// Equal neighbours, no ear.
+// Equal neighbours, an area that is not above zero, no ear.
 fn refused_by_ring() {
     lines(b"POLYGON ((0 0, 0 0, 4 0, 0 0))");
     lines(b"POLYGON ((0 0, 4 0, 0 4, 0 4, 0 0))");
+    lines(b"POLYGON ((0 0, 0 4, 4 0, 0 0))");
     lines(b"POLYGON ((0 0, 0 4, 4 4, 4 0, 0 0))");
     lines(b"POLYGON ((0 0, 1 0, 2 0, 3 0, 0 0))");
+    lines(b"POLYGON ((0 0, 0 1, 1 1, 2 0, 0 2, 0 0))");
 }
 
 // 6, which the program never gives: two triangles may take 127 bytes.
@@ -52,6 +54,11 @@ fn little_room() {
         b"backwards with room of 126 bytes: ",
         backwards,
         &mut [9u8; 126],
+    );
+    with_room(
+        b"without an ear with room of 182 bytes: ",
+        b"POLYGON ((0 0, 0 1, 1 1, 2 0, 0 2, 0 0))",
+        &mut [9u8; 182],
     );
 }
 

@@ -5,3 +5,4 @@ pub mod GridTest
 pub mod Sides
 pub mod Triangle
 pub mod Walks
+pub mod Areas

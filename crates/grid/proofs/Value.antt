@@ -7,13 +7,13 @@ use native.Mathlib.Nat.{mul-one, mul-assoc, mul-comm, mul-right-comm, mul-mul-mu
 use native.Mathlib.Omega.{arith}
 use mathlib.Core.Logic.{_⊎_, inl, inr}
 use mathlib.Core.Bool.{Bool, true, false, not, cond, _&&_, and-true, and-false, and-comm}
-use lib.Dec.{T, eqb, ltb, le→leb, leb·suc-suc, leb·suc-zero}
+use lib.Dec.{T, eqb, ltb, le→leb, lt→ltb, leb·suc-suc, leb·suc-zero}
 use lib.IntN.{ℤ, pos, negsuc, negℤ, natAbs, _+ℤ_, _-ℤ_, _*ℤ_}
 use lib.Signed.{ltZ, leZ}
-use lib.Ieee.{Float, nan, inf, fin, Format, binary32, prec, up, down, unlike, below, round, sum, add, sub, neg, mul, div, lt, eq, level, ofInt, inFloat, inUnsigned, toUnsigned}
+use lib.Ieee.{Float, nan, inf, fin, Format, binary32, prec, up, down, unlike, below, round, sum, add, sub, neg, mul, div, lt, eq, level, ofInt, inFloat, inUnsigned, toUnsigned, inSigned, toSigned}
 use lib.Ieee.Fits.{down-pos}
 use lib.Ieee.Exact.{HasValue}
-use lib.Ieee.Back.{round-whole, unsigned-back}
+use lib.Ieee.Back.{round-whole, unsigned-back, positive-back, negative-back}
 use lib.Ieee.Scale.{round-same}
 use borrow.Author.Tests.{ltb-true, ltb-false, lt-ltb, le-ltb, eq-eqb, ne-eqb}
 use Rattle.algebra.proofs.Order.{leZ-not-ltZ}
@@ -241,6 +241,11 @@ in-float f n h = le→leb n (2 ^ prec f) h
 -- and back
 pub whole-back : (x : Float) (n : ℕ) → x ≡ ofInt binary32 (pos n) → n ≤ 2 ^ 24 → T (inUnsigned binary32 32 x) × (toUnsigned 32 x ≡ n)
 whole-back x n e h = let w : n < 2 ^ 32 = omega arith in rw e (unsigned-back binary32 32 n (in-float binary32 n h) w)
+
+pub signed-back : (z : ℤ) → natAbs z ≤ 2 ^ 24 → T (inSigned binary32 31 (ofInt binary32 z)) × (toSigned 31 (ofInt binary32 z) ≡ z)
+unfolding inFloat
+signed-back (pos n) h = positive-back binary32 31 n (in-float binary32 n h) (omega arith)
+signed-back (negsuc n) h = negative-back binary32 31 n (lt→ltb n (2 ^ 24) (omega arith)) (omega arith)
 
 neg-value : (x : Float) (s : Bool) (n : ℕ) → HasValue x s n 1 → HasValue (neg x) (not s) n 1
 unfolding neg

@@ -1,4 +1,5 @@
 // Document 01's grid: which coordinates are on it, the refusals of an outline's coordinates, and points read from a lent slice of them.
+pub mod area;
 pub mod outline;
 pub mod point;
 pub mod point_in_triangle;

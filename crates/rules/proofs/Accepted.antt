@@ -1,27 +1,30 @@
 -- What the cutter's, the merger's and the hull's refusals leave: where none applies, the outline has all that the theorems on cutting ask, and is cut;
--- the triangles have all that the theorems on merging ask, and the cloud all that those on hulls ask. And refusal 7 exactly, over the cutter's own number.
+-- the triangles have all that the theorems on merging ask, and the cloud all that those on hulls ask. And refusals 13 and 7 exactly, over the cutter's own number.
 use Prim.Native.Nat.{ℕ, _*_, _-_, _/_, _%_, _≤_, _<_}
 use mathlib.Core.Path.{_≡_, refl, sym, _∙_, ap}
 use mathlib.Core.Logic.{_≢_}
 use mathlib.Core.Bool.{not, true, false, _||_}
 use mathlib.Core.List.{List, [], _∷_, _++_}
 use lib.Dec.{ltb, eqb}
+use lib.IntN.{pos}
 use lib.ListN.{length}
+use lib.Signed.{leZ, _≤ℤ_, _<ℤ_}
 use lib.Ieee.{Float}
 use Rattle.algebra.specs.Lists.{Each, end, _&_, any, countFrom}
 use Rattle.algebra.specs.Rings.{Corner, steps, edges}
 use Rattle.algebra.proofs.Lists.{each-imp, none-passes}
 use borrow.Author.Tests.{ltb-true, ltb-false}
-use Rattle.algebra.proofs.Equal.{impossible, eqb-true, not-false, or-false}
+use Rattle.algebra.proofs.Order.{lin}
+use Rattle.algebra.proofs.Equal.{impossible, T→true, eqb-true, not-false, or-false}
 use Rattle.rules.specs.Limits.{mostPoints, mostTriangles}
 use Rattle.rules.specs.Plane.{Pt, point, same}
 use Rattle.rules.specs.Grid.{pointsOf}
 use Rattle.rules.specs.Cut.{Cut, stuck, done, cut}
-use Rattle.rules.specs.Measure.{points, Apart}
-use Rattle.rules.specs.Refusals.{firstRefusal, equalNeighbours, isStuck, noEar, outOfRange, onOneLine, countChecks, outlineChecks, beforeCutting, cutterChecks, listChecks, mergerChecks, hullChecks}
+use Rattle.rules.specs.Measure.{points, area2, Apart}
+use Rattle.rules.specs.Refusals.{_gives_, firstRefusal, equalNeighbours, areaNotAboveZero, isStuck, noEar, outOfRange, onOneLine, countChecks, outlineChecks, beforeCutting, cutterChecks, listChecks, mergerChecks, hullChecks}
 use Rattle.rules.specs.Entries.{cutter}
 use Rattle.rules.proofs.Rows.{passes, applies, row-on, front-none, front-skips, others-decide}
-use Rattle.rules.proofs.Fronts.{cutter-front, seven-front, list-front, triangles-front, cloud-front}
+use Rattle.rules.proofs.Fronts.{cutter-front, thirteen-front, seven-front, list-front, triangles-front, cloud-front}
 use Rattle.rules.proofs.Points.{differ, apart→not-same}
 use Rattle.rules.proofs.Outline.{all-points}
 use Rattle.rules.proofs.Outlines.{Outlined, outlined}
@@ -56,6 +59,22 @@ module _ (ps : List Pt) where
   unfolding equalNeighbours
   apart→no-equals h = rw (all-points ps) at (ring-differs (countFrom 0 (length ps)) h)
 
+-- ---- the doubled area
+
+module _ (ps : List Pt) where
+  -- 13 stands for one that is not above zero, and for nothing else
+  pub passed→above : areaNotAboveZero ps ≡ false → pos 0 <ℤ area2 ps
+  unfolding areaNotAboveZero
+  passed→above h = omega lin
+
+  refused→not-above : areaNotAboveZero ps ≡ true → area2 ps ≤ℤ pos 0
+  unfolding areaNotAboveZero
+  refused→not-above h = omega lin
+
+  not-above→refused : area2 ps ≤ℤ pos 0 → areaNotAboveZero ps ≡ true
+  unfolding areaNotAboveZero
+  not-above→refused h = T→true (leZ (area2 ps) (pos 0)) (h .le)
+
 -- ---- the cutter's rows before 7
 
 module _ (cs : List Float) (room : ℕ) where
@@ -66,14 +85,16 @@ module _ (cs : List Float) (room : ℕ) where
   pub record Ready : Type 0 where
     pub outlines : Outlined 3 mostPoints cs
     pub no-equals : equalNeighbours outline ≡ false
+    pub area : areaNotAboveZero outline ≡ false
     pub fits : 3 * (length outline - 2) ≤ room
 
   pub ready : firstRefusal (beforeCutting cs room) ≡ 0 → Ready
   ready e =
       let none = front-none (cutter-front cs room) e in
       let (equal, e₅) = passes (equalNeighbours outline) 4 _ (sym (others-decide (cutter-front cs room) none) ∙ e) in
-      let (short, e₆) = passes (ltb room (3 * (length outline - 2))) 5 _ e₅ in
-      record { outlines = outlined 3 mostPoints cs none; no-equals = equal; fits = ltb-false room (3 * (length outline - 2)) short }
+      let (flat, e₁₃) = passes (areaNotAboveZero outline) 12 _ e₅ in
+      let (short, e₆) = passes (ltb room (3 * (length outline - 2))) 5 _ e₁₃ in
+      record { outlines = outlined 3 mostPoints cs none; no-equals = equal; area = flat; fits = ltb-false room (3 * (length outline - 2)) short }
 
 -- ---- an accepted outline
 
@@ -81,6 +102,7 @@ pub record Accepted (ps : List Pt) (room : ℕ) : Type 0 where
   pub three : 3 ≤ length ps
   pub at-most : length ps ≤ mostPoints
   pub neighbours : Apart ps (countFrom 0 (length ps))
+  pub above : pos 0 <ℤ area2 ps
   pub fits : 3 * (length ps - 2) ≤ room
   pub triangles : List (Corner ℕ)
   pub is-cut : cut ps ≡ done triangles
@@ -101,10 +123,31 @@ accepted cs room e =
       three = r .outlines .at-least;
       at-most = r .outlines .at-most;
       neighbours = no-equals→apart ps (r .no-equals);
+      above = passed→above ps (r .area);
       fits = r .fits;
       triangles = ts;
       is-cut = is;
     }
+
+-- ---- refusal 13
+
+module _ (cs : List Float) (out : List ℕ) where
+  -- the cutter's number is 13 exactly if no earlier row applies and the doubled area is not above zero
+  pub record NoArea : Type 0 where
+    pub no-earlier : firstRefusal (outlineChecks 3 mostPoints cs ++ (equalNeighbours (pointsOf cs) gives 5 ∷ [])) ≡ 0
+    pub not-above : area2 (pointsOf cs) ≤ℤ pos 0
+
+  pub thirteen→area : cutter cs out .number ≡ 13 → NoArea
+  unfolding outlineChecks countChecks
+  thirteen→area e =
+      let front = thirteen-front cs (length out) in
+      let rows : firstRefusal (cutterChecks cs (length out)) ≡ 13 = sym (cutter-number cs out) ∙ e in
+      let early = front-skips front 13 refl rows in
+      record { no-earlier = early; not-above = refused→not-above (pointsOf cs) (applies (areaNotAboveZero (pointsOf cs)) 12 _ refl (sym (others-decide front early) ∙ rows)) }
+
+  pub area→thirteen : NoArea → cutter cs out .number ≡ 13
+  area→thirteen h =
+      cutter-number cs out ∙ others-decide (thirteen-front cs (length out)) (h .no-earlier) ∙ row-on 13 _ (not-above→refused (pointsOf cs) (h .not-above))
 
 -- ---- refusal 7
 

@@ -8,7 +8,9 @@ use native.Mathlib.Omega.{arith}
 use native.Mathlib.Nat.{mul-div-cancel-left, mul-mod-right}
 use borrow.Author.Tests.{lt-ltb, le-ltb}
 use lib.Dec.{eqb, ltb, lit<}
+use lib.IntN.{ℤ, pos}
 use lib.ListN.{length, take}
+use lib.Signed.{_<ℤ_}
 use lib.Ieee.{Float}
 use Rattle.algebra.specs.Lists.{Each, end, _&_, countFrom}
 use Rattle.algebra.proofs.Lists.{each-head}
@@ -33,7 +35,7 @@ use Rattle.rules.proofs.Outlines.{Outlined, outline-none}
 use Rattle.rules.proofs.Answers.{cutter-number, cutter-indices, merger-number, merger-written}
 use Rattle.rules.proofs.Accepted.{Accepted, ready}
 use Rattle.rules.proofs.Plans.{triangles-size, triangles-plan}
-use Rattle.rules.proofs.Results.{triangles-are, not-right, cut-result, written-inside, written-area, merged-inside, merged-area, merged-size}
+use Rattle.rules.proofs.Results.{triangles-are, not-right, cut-result, outline-above, written-inside, written-area, merged-inside, merged-area, merged-size}
 
 -- ---- the merger's rows on triangles of an outline
 
@@ -113,6 +115,10 @@ module _ (cs : List Float) (cut-out out lens : List ℕ) (cut-ok : cutter cs cut
 
   pub both-area : area2 ps ≡ total integers (λ t. area2 (points ps t)) pieces
   both-area = written-area cs cut-out cut-ok ∙ sym (merged-area cs given out lens merger-takes)
+
+  -- to more than zero
+  pub both-above : pos 0 <ℤ total integers (λ t. area2 (points ps t)) pieces
+  both-above = subst (λ (z : ℤ). pos 0 <ℤ z) both-area (outline-above cs cut-out cut-ok)
 
   -- the sum of (corners - 2) over the merged areas is the outline's
   pub both-size : length ps - 2 ≡ total naturals (λ t. length t - 2) pieces

@@ -7,6 +7,8 @@ use mathlib.Core.List.{List, [], _∷_, map, List·Memᴰ, List·Memᴰ·head, L
 use native.Mathlib.Omega.{arith}
 use borrow.Author.Tests.{le-ltb}
 use lib.Dec.{ltb}
+use lib.IntN.{ℤ, pos}
+use lib.Signed.{_<ℤ_}
 use lib.ListN.{length, take, drop, length-map}
 use Rattle.algebra.specs.Lists.{Each}
 use Rattle.algebra.proofs.Lists.{each-all, each-imp, each-map}
@@ -17,7 +19,7 @@ use Rattle.rules.specs.Limits.{mostPoints}
 use Rattle.rules.specs.Plane.{Pt, point}
 use Rattle.rules.specs.Crossing.{odd, oddCrossings}
 use Rattle.rules.specs.Layout.{over}
-use Rattle.rules.specs.Refusals.{_gives_, firstRefusal, noEar, equalNeighbours, countChecks}
+use Rattle.rules.specs.Refusals.{_gives_, firstRefusal, equalNeighbours, areaNotAboveZero, noEar, countChecks}
 use Rattle.rules.specs.Entries.{trianglesFor}
 use Rattle.rules.specs.Measure.{points, area2}
 use Rattle.rules.specs.Text.{InForm, NotInForm, multipolygonLine}
@@ -57,15 +59,16 @@ module _ (plan : List Pt → List (List ℕ)) (line out : List ℕ) where
 -- ---- the number
 
 -- 1 is never given
-fill-numbers : (corners : List Pt) (room : ℕ) → List·Memᴰ (firstRefusal (fillChecks corners room)) (0 ∷ 2 ∷ 3 ∷ 4 ∷ 5 ∷ 6 ∷ 7 ∷ [])
+fill-numbers : (corners : List Pt) (room : ℕ) → List·Memᴰ (firstRefusal (fillChecks corners room)) (0 ∷ 2 ∷ 3 ∷ 4 ∷ 5 ∷ 13 ∷ 6 ∷ 7 ∷ [])
 unfolding fillChecks beforeRing countChecks
-fill-numbers corners room = subst (λ (n : ℕ). List·Memᴰ n (0 ∷ 2 ∷ 3 ∷ 4 ∷ 5 ∷ 6 ∷ 7 ∷ [])) (sym (row-off 1 _ (even (length corners)))) (given-number _)
+fill-numbers corners room = subst (λ (n : ℕ). List·Memᴰ n (0 ∷ 2 ∷ 3 ∷ 4 ∷ 5 ∷ 13 ∷ 6 ∷ 7 ∷ [])) (sym (row-off 1 _ (even (length corners)))) (given-number _)
 
-not-six : (a b : Bool) → firstRefusal (a gives 5 ∷ false gives 6 ∷ b gives 7 ∷ []) ≢ 6
+not-six : (a b c : Bool) → firstRefusal (a gives 5 ∷ b gives 13 ∷ false gives 6 ∷ c gives 7 ∷ []) ≢ 6
 unfolding firstRefusal
-not-six true b e = absurd (omega arith)
-not-six false true e = absurd (omega arith)
-not-six false false e = absurd (omega arith)
+not-six true b c e = absurd (omega arith)
+not-six false true c e = absurd (omega arith)
+not-six false false true e = absurd (omega arith)
+not-six false false false e = absurd (omega arith)
 
 -- with room for the most corners, 6 is not given
 room-enough : (corners : List Pt) (room : ℕ) → fillRoom mostPoints ≤ room → firstRefusal (fillChecks corners room) ≢ 6
@@ -74,10 +77,10 @@ room-enough corners room h e =
     let first = front-skips (corners-front corners room) 6 refl e in
     let s = sound corners first in
     let roomy : ltb room (fillRoom (length corners)) ≡ false = le-ltb room (fillRoom (length corners)) (omega (arith, s .at-most)) in
-    not-six (equalNeighbours corners) (noEar corners) (rw roomy at (sym (others-decide (corners-front corners room) first) ∙ e))
+    not-six (equalNeighbours corners) (areaNotAboveZero corners) (noEar corners) (rw roomy at (sym (others-decide (corners-front corners room) first) ∙ e))
 
 module _ (plan : List Pt → List (List ℕ)) (line out : List ℕ) (r : Writing) (f : Fills plan line out r) where
-  -- of a line in form it is the first refusal in the order 2, 3, 4, 5, 6, 7, or 0
+  -- of a line in form it is the first refusal in the order 2, 3, 4, 5, 13, 6, 7, or 0
   pub fill-first : (corners : List Pt) → InForm line corners → r .number ≡ firstRefusal (fillChecks corners (length out))
   unfolding filler
   fill-first corners form =
@@ -88,11 +91,11 @@ module _ (plan : List Pt → List (List ℕ)) (line out : List ℕ) (r : Writing
   fill-eleven h = ap (λ (w : Writing). w .number) (eleven-of f h)
 
   -- and no other number: none of the merger's, after an accepted cut
-  pub fill-number : List·Memᴰ (r .number) (11 ∷ 0 ∷ 2 ∷ 3 ∷ 4 ∷ 5 ∷ 6 ∷ 7 ∷ [])
+  pub fill-number : List·Memᴰ (r .number) (11 ∷ 0 ∷ 2 ∷ 3 ∷ 4 ∷ 5 ∷ 13 ∷ 6 ∷ 7 ∷ [])
   fill-number = go f
     where
-      go : Fills plan line out r → List·Memᴰ (r .number) (11 ∷ 0 ∷ 2 ∷ 3 ∷ 4 ∷ 5 ∷ 6 ∷ 7 ∷ [])
-      go (in-form {corners = ds} g e) = List·Memᴰ·tail (subst (λ (n : ℕ). List·Memᴰ n (0 ∷ 2 ∷ 3 ∷ 4 ∷ 5 ∷ 6 ∷ 7 ∷ [])) (sym (fill-first ds g)) (fill-numbers ds (length out)))
+      go : Fills plan line out r → List·Memᴰ (r .number) (11 ∷ 0 ∷ 2 ∷ 3 ∷ 4 ∷ 5 ∷ 13 ∷ 6 ∷ 7 ∷ [])
+      go (in-form {corners = ds} g e) = List·Memᴰ·tail (subst (λ (n : ℕ). List·Memᴰ n (0 ∷ 2 ∷ 3 ∷ 4 ∷ 5 ∷ 13 ∷ 6 ∷ 7 ∷ [])) (sym (fill-first ds g)) (fill-numbers ds (length out)))
       go (not-in-form h e) = List·Memᴰ·head (fill-eleven h)
 
   -- nor 6, with room for the most corners
@@ -139,12 +142,13 @@ module _ (plan : List Pt → List (List ℕ)) (line out : List ℕ) (r : Writing
 -- ---- demand 3 over the text
 
 -- rings that describe the area of an outline: each of three corners or more, which beyond two add up to the outline's; at every grid point
--- the outline's answer is the parity of the rings'; and doubled areas add up
+-- the outline's answer is the parity of the rings'; and doubled areas add up, to more than zero
 pub record Describe (rings : List (List Pt)) (corners : List Pt) : Type 0 where
   pub three : Each (λ ring. 3 ≤ length ring) rings
   pub size : total naturals (λ ring. length ring - 2) rings ≡ length corners - 2
   pub inside : (p : Pt) → oddCrossings p corners ≡ odd (oddCrossings p) rings
   pub area : area2 corners ≡ total integers area2 rings
+  pub above : pos 0 <ℤ total integers area2 rings
 
 planned-describes : {ps : List Pt} {rings : List (List ℕ)} → Plan ps rings → Describe (map (points ps) rings) ps
 planned-describes {ps} {rings} plan = record {
@@ -152,6 +156,7 @@ planned-describes {ps} {rings} plan = record {
   size = total-map naturals (λ ring. length ring - 2) (points ps) rings ∙ total-same naturals (λ t. length (points ps t) - 2) (λ t. length t - 2) (λ t. ap (λ (n : ℕ). n - 2) (length-map t (point ps))) rings ∙ plan .size;
   inside = λ p. plan .inside p ∙ sym (total-map parities (oddCrossings p) (points ps) rings);
   area = plan .area ∙ sym (total-map integers area2 (points ps) rings);
+  above = subst (λ (z : ℤ). pos 0 <ℤ z) (sym (total-map integers area2 (points ps) rings)) (plan .above);
 }
 
 -- whatever rings the written text is read as, they describe the outline that was read

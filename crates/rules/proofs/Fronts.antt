@@ -1,13 +1,13 @@
 -- Which rows of each entry stand in front of which: an outline's in front of every entry's own.
 use Prim.Native.Nat.{ℕ}
 use mathlib.Core.Path.{refl}
-use mathlib.Core.List.{List, [], _∷_}
+use mathlib.Core.List.{List, [], _∷_, _++_}
 use lib.Dec.{ltb}
 use lib.ListN.{length}
 use lib.Ieee.{Float}
 use Rattle.rules.specs.Limits.{mostPoints}
 use Rattle.rules.specs.Grid.{pointsOf}
-use Rattle.rules.specs.Refusals.{_gives_, offGrid, noEar, shortToCut, countChecks, outlineChecks, ringChecks, beforeCutting, cutterChecks, listChecks, beforeTriangles, triangleChecks, mergerChecks, pointTestChecks, cloudChecks, hullChecks}
+use Rattle.rules.specs.Refusals.{_gives_, offGrid, equalNeighbours, areaNotAboveZero, noEar, shortToCut, countChecks, outlineChecks, ringChecks, beforeCutting, cutterChecks, listChecks, beforeTriangles, triangleChecks, mergerChecks, pointTestChecks, cloudChecks, hullChecks}
 use Rattle.rules.specs.Lines.{polygonRoom, polygonChecks}
 use Rattle.rules.proofs.Rows.{Front}
 
@@ -22,6 +22,14 @@ count-front least most cs = record { whole = refl; numbered = refl }
 pub cutter-front : (cs : List Float) (room : ℕ) → Front (outlineChecks 3 mostPoints cs) (ringChecks (pointsOf cs) (shortToCut (pointsOf cs) room)) (beforeCutting cs room)
 unfolding countChecks outlineChecks beforeCutting
 cutter-front cs room = record { whole = refl; numbered = refl }
+
+pub thirteen-front :
+    (cs : List Float) (room : ℕ)
+    → Front (outlineChecks 3 mostPoints cs ++ (equalNeighbours (pointsOf cs) gives 5 ∷ []))
+    (areaNotAboveZero (pointsOf cs) gives 13 ∷ shortToCut (pointsOf cs) room gives 6 ∷ noEar (pointsOf cs) gives 7 ∷ [])
+    (cutterChecks cs room)
+unfolding countChecks outlineChecks beforeCutting cutterChecks
+thirteen-front cs room = record { whole = refl; numbered = refl }
 
 pub seven-front : (cs : List Float) (room : ℕ) → Front (beforeCutting cs room) (noEar (pointsOf cs) gives 7 ∷ []) (cutterChecks cs room)
 unfolding countChecks outlineChecks beforeCutting cutterChecks

@@ -4,7 +4,9 @@ use mathlib.Core.Path.{_≡_, refl, sym, _∙_, subst}
 use mathlib.Core.List.{List, [], _∷_, map}
 use native.Mathlib.Omega.{arith}
 use lib.Dec.{lit≤}
+use lib.IntN.{ℤ, pos}
 use lib.ListN.{length}
+use lib.Signed.{_<ℤ_}
 use Rattle.algebra.specs.Lists.{Each}
 use Rattle.algebra.proofs.Lists.{each-all, each-map}
 use Rattle.algebra.specs.Sums.{total, integers, naturals}
@@ -29,6 +31,7 @@ pub record Plan (ps : List Pt) (rings : List (List ℕ)) : Type 0 where
   -- at every grid point the outline's answer is the parity of the rings'
   pub inside : (p : Pt) → oddCrossings p ps ≡ odd (λ t. oddCrossings p (points ps t)) rings
   pub area : area2 ps ≡ total integers (λ t. area2 (points ps t)) rings
+  pub above : pos 0 <ℤ total integers (λ t. area2 (points ps t)) rings
 
 -- there is a ring
 pub plan-some : (ps : List Pt) (rings : List (List ℕ)) → 3 ≤ length ps → Plan ps rings → 0 < length rings
@@ -39,13 +42,14 @@ pub triangles-size : (ts : List (Corner ℕ)) → total naturals (λ t. length t
 triangles-size [] = refl
 triangles-size (t ∷ ts) = omega (arith, triangles-size ts)
 
-cut-plan : (ps : List Pt) (ts : List (Corner ℕ)) → 3 ≤ length ps → cut ps ≡ done ts → Plan ps (map ringOf ts)
-cut-plan ps ts three e = record {
+cut-plan : (ps : List Pt) (ts : List (Corner ℕ)) → 3 ≤ length ps → pos 0 <ℤ area2 ps → cut ps ≡ done ts → Plan ps (map ringOf ts)
+cut-plan ps ts three above e = record {
   three = each-map ringOf (each-all (λ t. lit≤ tt) ts);
   below = each-map ringOf (cut-indices ps ts three e);
   size = triangles-size ts ∙ cut-count ps ts three e;
   inside = cut-inside ps ts three e;
   area = cut-area ps ts three e;
+  above = subst (λ (z : ℤ). pos 0 <ℤ z) (cut-area ps ts three e) above;
 }
 
 merged-plan : (may : JoinTest) {ps : List Pt} {rings : List (List ℕ)} → Plan ps rings → Plan ps (merge may rings)
@@ -55,6 +59,7 @@ merged-plan may {ps} {rings} plan = record {
   size = merging may rings .size ∙ plan .size;
   inside = λ p. plan .inside p ∙ sym (pieces-inside ps may rings p);
   area = plan .area ∙ sym (pieces-area ps may rings);
+  above = subst (λ (z : ℤ). pos 0 <ℤ z) (sym (pieces-area ps may rings)) (plan .above);
 }
 
 -- a way to plan any accepted outline
@@ -62,7 +67,7 @@ abbrev pub Plans : (List Pt → List (List ℕ)) → Type 0
 Plans plan = (ps : List Pt) (room : ℕ) → Accepted ps room → Plan ps (plan ps)
 
 pub triangles-plan : Plans trianglesFor
-triangles-plan ps room a = subst (Plan ps) (sym (triangles-are a)) (cut-plan ps (a .triangles) (a .three) (a .is-cut))
+triangles-plan ps room a = subst (Plan ps) (sym (triangles-are a)) (cut-plan ps (a .triangles) (a .three) (a .above) (a .is-cut))
 
 pub areas-plan : Plans areasFor
 unfolding areasFor

@@ -1,12 +1,13 @@
 -- Demand 3 over what the entries give back: the written triangles and pieces, read from lent memory. The crossing parity is what the
 -- outline test answers.
 use Prim.Native.Nat.{ℕ, _-_, _≤_, _<_}
-use mathlib.Core.Path.{_≡_, sym, _∙_, ap}
+use mathlib.Core.Path.{_≡_, sym, _∙_, ap, subst}
 use mathlib.Core.List.{List, [], _∷_, map}
+use native.Mathlib.Omega.{arith}
 use lib.ListN.{length, length-map}
 use lib.Dec.{lit≤}
-use lib.IntN.{ℤ, pos}
-use lib.Signed.{ltZ}
+use lib.IntN.{ℤ, pos, +ℤ-idr}
+use lib.Signed.{ltZ, _<ℤ_}
 use lib.Ieee.{Float}
 use Rattle.algebra.specs.Lists.{Each, end, _&_, countFrom}
 use Rattle.algebra.proofs.Lists.{each-all, each-map}
@@ -66,6 +67,25 @@ module _ (cs : List Float) (out : List ℕ) (ok : cutter cs out .number ≡ 0) w
   -- doubled signed areas add up
   pub written-area : area2 (pointsOf cs) ≡ total integers (λ t. area2 (points (pointsOf cs) t)) (writtenTriangles (cutter cs out))
   written-area = let r = cut-result cs out ok in rw (r .written) (cut-area (pointsOf cs) (r .outline .triangles) (r .outline .three) (r .outline .is-cut))
+
+  -- to more than zero, as the outline's is
+  pub outline-above : pos 0 <ℤ area2 (pointsOf cs)
+  outline-above = cut-result cs out ok .outline .above
+
+  pub written-above : pos 0 <ℤ total integers (λ t. area2 (points (pointsOf cs) t)) (writtenTriangles (cutter cs out))
+  written-above = subst (λ (z : ℤ). pos 0 <ℤ z) written-area outline-above
+
+  -- so the one triangle of three corners goes counter-clockwise
+  pub three-above : length (pointsOf cs) ≡ 3 → Each (λ t. pos 0 <ℤ area2 (points (pointsOf cs) t)) (writtenTriangles (cutter cs out))
+  three-above n = go (writtenTriangles (cutter cs out)) one written-above
+    where
+      one : length (writtenTriangles (cutter cs out)) ≡ 1
+      one = let r = cut-result cs out ok in rw (r .written) (length-map (r .outline .triangles) ringOf ∙ cut-count (pointsOf cs) (r .outline .triangles) (r .outline .three) (r .outline .is-cut) ∙ ap (λ (k : ℕ). k - 2) n)
+
+      go : (ts : List (List ℕ)) → length ts ≡ 1 → pos 0 <ℤ total integers (λ t. area2 (points (pointsOf cs) t)) ts → Each (λ t. pos 0 <ℤ area2 (points (pointsOf cs) t)) ts
+      go [] e h = end
+      go (t ∷ []) e h = subst (λ (z : ℤ). pos 0 <ℤ z) (+ℤ-idr (area2 (points (pointsOf cs) t))) h & end
+      go (t ∷ u ∷ ts) e h = absurd (omega arith)
 
   -- neighbours in the ring never become equal
   pub met-neighbours : (ring : List ℕ) → Met (pointsOf cs) (countFrom 0 (length (pointsOf cs))) ring → Apart (pointsOf cs) ring

@@ -1,7 +1,7 @@
 -- Document 01, "Twelve small cases", as one table: what is lent to which entry, and everything that comes back.
 -- Behind the twelve, cases for "Slips that look right", the edge of the grid, the choice of the ear, the joins, each refusal and their order,
 -- and for the requests.
-use Prim.Native.Nat.{ℕ, _^_}
+use Prim.Native.Nat.{ℕ, zero, suc, _^_}
 use mathlib.Core.Path.{_≡_}
 use mathlib.Core.Bool.{Bool, true, false}
 use mathlib.Core.List.{List, [], _∷_, _++_, map}
@@ -69,6 +69,24 @@ T = whole (0 ∷ 0 ∷ 4 ∷ 0 ∷ 0 ∷ 4 ∷ [])
 abbrev T-backwards : List Float
 T-backwards = whole (0 ∷ 0 ∷ 0 ∷ 4 ∷ 4 ∷ 0 ∷ [])
 
+-- the edge of the grid n times: at 128, which are 512 corners, no outline's doubled area is larger in size
+abbrev round-the-grid : ℕ → List Float
+round-the-grid zero = []
+round-the-grid (suc n) = f- 1024 ∷ f- 1024 ∷ f 1024 ∷ f- 1024 ∷ f 1024 ∷ f 1024 ∷ f- 1024 ∷ f 1024 ∷ round-the-grid n
+
+abbrev round-backwards : ℕ → List Float
+round-backwards zero = []
+round-backwards (suc n) = f- 1024 ∷ f- 1024 ∷ f- 1024 ∷ f 1024 ∷ f 1024 ∷ f 1024 ∷ f 1024 ∷ f- 1024 ∷ round-backwards n
+
+-- the smallest outline that is accepted with a clockwise triangle, by a search: none has its corners on two by two points, and this is the first
+-- of those with four on three by three
+abbrev crossed-over : List Float
+crossed-over = whole (0 ∷ 0 ∷ 0 ∷ 1 ∷ 1 ∷ 0 ∷ 1 ∷ 2 ∷ [])
+
+-- counter-clockwise by its area, and without an ear
+abbrev earless : List Float
+earless = whole (0 ∷ 0 ∷ 0 ∷ 1 ∷ 1 ∷ 1 ∷ 2 ∷ 0 ∷ 0 ∷ 2 ∷ [])
+
 abbrev hexagon : List Float
 hexagon = whole (1 ∷ 0 ∷ 3 ∷ 0 ∷ 4 ∷ 2 ∷ 3 ∷ 4 ∷ 1 ∷ 4 ∷ 0 ∷ 2 ∷ [])
 
@@ -117,7 +135,7 @@ table =
     ∷ cutting Q (nines 6) (record { number = 0; count = 2; indices = 1 ∷ 2 ∷ 3 ∷ 3 ∷ 0 ∷ 1 ∷ [] })  -- K3
     ∷ merging Q (1 ∷ 2 ∷ 3 ∷ 3 ∷ 0 ∷ 1 ∷ []) (nines 6) (nines 2) (record { number = 0; count = 2; indices = 1 ∷ 2 ∷ 3 ∷ 3 ∷ 0 ∷ 1 ∷ []; lengths = 3 ∷ 3 ∷ [] })  -- K4
     ∷ cutting T (nines 4) (record { number = 0; count = 1; indices = 2 ∷ 0 ∷ 1 ∷ 9 ∷ [] })  -- K5
-    ∷ cutting P-backwards (nines 6) (record { number = 7; count = 0; indices = nines 6 })  -- K6
+    ∷ cutting P-backwards (nines 6) (record { number = 13; count = 0; indices = nines 6 })  -- K6, by request M-105
     ∷ asking-at (f 0) (f 2) P (answered true)  -- K7
     ∷ asking-at (f 4) (f 2) P (answered false)  -- K8
     ∷ asking-at (f 2) (f 0) P (answered true)  -- K9
@@ -134,8 +152,19 @@ table =
     ∷ rooting 0 (f 0)
     ∷ rooting 4 (f 2)
     ∷ rooting (2 ^ 23) (Ieee.round binary32 false 11863283 (2 ^ 12))
-    -- a clockwise outline of three is accepted: the last three are not tested for being an ear
-    ∷ cut-into T-backwards 3 1 (2 ∷ 0 ∷ 1 ∷ [])
+    -- request M-105: clockwise, on a line, or there and back, three corners included
+    ∷ cut-refused T-backwards 3 13
+    ∷ cut-refused (whole (0 ∷ 0 ∷ 1 ∷ 0 ∷ 2 ∷ 0 ∷ [])) 3 13
+    ∷ cut-refused (whole (0 ∷ 0 ∷ 1 ∷ 0 ∷ 2 ∷ 0 ∷ 3 ∷ 0 ∷ [])) 6 13
+    ∷ cut-refused (whole (0 ∷ 0 ∷ 1 ∷ 0 ∷ 0 ∷ 0 ∷ 0 ∷ 1 ∷ [])) 6 13
+    -- the last three are not tested for being an ear: of this outline's triangles the last is clockwise, and 1 is 2 and -1
+    ∷ cut-into crossed-over 6 2 (2 ∷ 3 ∷ 0 ∷ 2 ∷ 0 ∷ 1 ∷ [])
+    ∷ measuring crossed-over (pos 1)
+    ∷ measuring (whole (1 ∷ 0 ∷ 1 ∷ 2 ∷ 0 ∷ 0 ∷ [])) (pos 2)
+    ∷ measuring (whole (1 ∷ 0 ∷ 0 ∷ 0 ∷ 0 ∷ 1 ∷ [])) (negsuc 0)
+    -- the largest sum, and the smallest
+    ∷ measuring (round-the-grid 128) (pos (2 ^ 30))
+    ∷ measuring (round-backwards 128) (negℤ (pos (2 ^ 30)))
     -- corner 1, which is cut first, still blocks corner 4
     ∷ cut-into (whole (0 ∷ 0 ∷ 1 ∷ 0 ∷ 0 ∷ 1 ∷ 2 ∷ 0 ∷ 2 ∷ 2 ∷ [])) 9 3 (0 ∷ 1 ∷ 2 ∷ 2 ∷ 3 ∷ 4 ∷ 4 ∷ 0 ∷ 2 ∷ [])
     -- the grid goes from -1024 to 1024; minus zero is read as zero
@@ -159,7 +188,7 @@ table =
     ∷ cut-into (whole (5 ∷ 5 ∷ 3 ∷ 4 ∷ 1 ∷ 2 ∷ 1 ∷ 3 ∷ 0 ∷ 0 ∷ [])) 9 3 (4 ∷ 0 ∷ 1 ∷ 4 ∷ 1 ∷ 2 ∷ 4 ∷ 2 ∷ 3 ∷ [])
     ∷ cut-into (whole (2 ∷ 4 ∷ 1 ∷ 4 ∷ 2 ∷ 3 ∷ 3 ∷ 7 ∷ 0 ∷ 8 ∷ [])) 9 3 (0 ∷ 1 ∷ 2 ∷ 0 ∷ 2 ∷ 3 ∷ 4 ∷ 0 ∷ 3 ∷ [])
     -- points beside the triangle of a corner, beyond its corners, and on its border, which block
-    ∷ cut-into (whole (1 ∷ 3 ∷ 3 ∷ 4 ∷ 0 ∷ 2 ∷ 2 ∷ 4 ∷ 1 ∷ 4 ∷ [])) 9 3 (3 ∷ 4 ∷ 0 ∷ 3 ∷ 0 ∷ 1 ∷ 3 ∷ 1 ∷ 2 ∷ [])
+    ∷ cut-into (whole (1 ∷ 0 ∷ 1 ∷ 3 ∷ 0 ∷ 3 ∷ 1 ∷ 1 ∷ 2 ∷ 3 ∷ [])) 9 3 (1 ∷ 2 ∷ 3 ∷ 1 ∷ 3 ∷ 4 ∷ 4 ∷ 0 ∷ 1 ∷ [])
     ∷ cut-into (whole (4 ∷ 1 ∷ 0 ∷ 4 ∷ 3 ∷ 2 ∷ 2 ∷ 4 ∷ 1 ∷ 4 ∷ [])) 9 3 (2 ∷ 3 ∷ 4 ∷ 1 ∷ 2 ∷ 4 ∷ 4 ∷ 0 ∷ 1 ∷ [])
     -- request M-103: a plate with a hole by a slot, in from its corner and back. Two points are passed twice and block no ear. Document 01's own rule
     -- has them block, and gave 7 here and for the next
@@ -167,10 +196,9 @@ table =
     (3 ∷ 4 ∷ 5 ∷ 3 ∷ 5 ∷ 6 ∷ 2 ∷ 3 ∷ 6 ∷ 2 ∷ 6 ∷ 7 ∷ 1 ∷ 2 ∷ 7 ∷ 1 ∷ 7 ∷ 8 ∷ 0 ∷ 1 ∷ 8 ∷ 9 ∷ 0 ∷ 8 ∷ [])
     -- in along a line and back along it, round nothing: the last triangle is clockwise
     ∷ cut-into (whole (0 ∷ 0 ∷ 4 ∷ 0 ∷ 4 ∷ 4 ∷ 0 ∷ 4 ∷ 4 ∷ 0 ∷ [])) 9 3 (2 ∷ 3 ∷ 4 ∷ 0 ∷ 1 ∷ 2 ∷ 4 ∷ 0 ∷ 2 ∷ [])
-    -- corner 3 is cut, and then no ear is left: what was lent is as it was
-    ∷ cut-refused (whole (2 ∷ 0 ∷ 0 ∷ 0 ∷ 0 ∷ 1 ∷ 1 ∷ 0 ∷ 1 ∷ 1 ∷ [])) 9 7
-    -- four corners on a line
-    ∷ cut-refused (whole (0 ∷ 0 ∷ 1 ∷ 0 ∷ 2 ∷ 0 ∷ 3 ∷ 0 ∷ [])) 6 7
+    -- no corner is an ear; and corner 2 is cut, and then no ear is left: what was lent is as it was
+    ∷ cut-refused earless 9 7
+    ∷ cut-refused (whole (0 ∷ 0 ∷ 1 ∷ 1 ∷ 0 ∷ 1 ∷ 2 ∷ 0 ∷ 0 ∷ 2 ∷ [])) 9 7
     -- the refusals of the cutter, and of two that apply the earlier: 1 before 2 and 3, 2 before 4
     ∷ cut-refused [] 0 2
     ∷ cut-refused (whole (0 ∷ [])) 0 1
@@ -182,11 +210,12 @@ table =
     ∷ cut-refused (replicate 1024 (f 0)) 3 5
     ∷ cut-refused (replicate 1026 (f 0)) 3 3
     ∷ cut-refused (replicate 1026 nan) 3 3
-    -- 4 before 5; 5 for the last corner and the first; 5 before 6, 6 before 7
+    -- 4 before 5; 5 for the last corner and the first; 5 before 13, 13 before 6, 6 before 7
     ∷ cut-refused (nan ∷ f 0 ∷ f 4 ∷ f 0 ∷ f 4 ∷ f 0 ∷ []) 3 4
     ∷ cut-refused (whole (0 ∷ 0 ∷ 4 ∷ 0 ∷ 4 ∷ 4 ∷ 0 ∷ 0 ∷ [])) 6 5
     ∷ cut-refused (whole (0 ∷ 0 ∷ 0 ∷ 0 ∷ 4 ∷ 0 ∷ [])) 0 5
-    ∷ cut-refused P-backwards 5 6
+    ∷ cut-refused P-backwards 5 13
+    ∷ cut-refused earless 8 6
     -- a join is refused for a right turn at s or at e, and not for a straight one
     ∷ merged-into Q (3 ∷ 0 ∷ 1 ∷ 1 ∷ 2 ∷ 3 ∷ []) 6 2 2 (3 ∷ 0 ∷ 1 ∷ 1 ∷ 2 ∷ 3 ∷ []) (3 ∷ 3 ∷ [])
     ∷ merged-into Q-flat (1 ∷ 2 ∷ 3 ∷ 3 ∷ 0 ∷ 1 ∷ []) 6 2 1 (1 ∷ 2 ∷ 3 ∷ 0 ∷ 9 ∷ 9 ∷ []) (4 ∷ 9 ∷ [])

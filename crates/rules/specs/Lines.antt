@@ -14,7 +14,7 @@ use Rattle.rules.specs.Plane.{Pt}
 use Rattle.rules.specs.Grid.{pointsOf}
 use Rattle.rules.specs.Merge.{mayJoin, merge}
 use Rattle.rules.specs.Layout.{over}
-use Rattle.rules.specs.Refusals.{Row, _gives_, firstRefusal, equalNeighbours, noEar, countChecks, outlineChecks, ringChecks}
+use Rattle.rules.specs.Refusals.{Row, _gives_, firstRefusal, equalNeighbours, areaNotAboveZero, noEar, countChecks, outlineChecks, ringChecks}
 use Rattle.rules.specs.Entries.{unless, trianglesFor}
 use Rattle.rules.specs.Measure.{points}
 use Rattle.rules.specs.Text.{InForm, NotInForm, polygonLine, multipolygonLine}
@@ -116,7 +116,7 @@ unfolding countChecks offCorners
 beforeRing corners = countChecks 3 mostPoints (2 * length corners) ++ (offCorners corners gives 4 ∷ [])
 
 unfoldable pub fillChecks : List Pt → ℕ → List Row
-unfolding beforeRing equalNeighbours noEar
+unfolding beforeRing equalNeighbours areaNotAboveZero noEar
 fillChecks corners room =
     beforeRing corners
     ++ (ringChecks corners (ltb room (fillRoom (length corners)))

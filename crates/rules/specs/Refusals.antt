@@ -3,13 +3,16 @@ use Prim.Native.Nat.{ℕ, _*_, _-_, _/_, _%_}
 use mathlib.Core.Bool.{Bool, true, false, cond, not, _||_}
 use mathlib.Core.List.{List, [], _∷_, _++_}
 use lib.Dec.{eqb, ltb}
+use lib.IntN.{pos}
 use lib.ListN.{length}
+use lib.Signed.{leZ}
 use lib.Ieee.{Float}
 use Rattle.algebra.specs.Lists.{any}
 use Rattle.algebra.specs.Rings.{edges}
 use Rattle.rules.specs.Limits.{mostPoints, mostTriangles}
 use Rattle.rules.specs.Plane.{Pt, same, left}
 use Rattle.rules.specs.Grid.{onGrid, pointsOf}
+use Rattle.rules.specs.Measure.{area2}
 use Rattle.rules.specs.Cut.{Cut, stuck, done, cut}
 
 infix 90 _gives_
@@ -27,6 +30,11 @@ offGrid cs = any (λ c. not (onGrid c)) cs
 
 unfoldable pub equalNeighbours : List Pt → Bool
 equalNeighbours ps = any (λ e. same (e .from) (e .to)) (edges ps)
+
+-- request M-105: the outline goes clockwise, or has no area
+unfoldable pub areaNotAboveZero : List Pt → Bool
+unfolding area2
+areaNotAboveZero ps = leZ (area2 ps) (pos 0)
 
 abbrev pub isStuck : Cut → Bool
 isStuck stuck = true
@@ -73,12 +81,13 @@ outlineChecks least most cs = countChecks least most (length cs) ++ (offGrid cs 
 abbrev pub ringChecks : List Pt → Bool → List Row
 ringChecks ps short =
     equalNeighbours ps gives 5
+    ∷ areaNotAboveZero ps gives 13
     ∷ short gives 6
     ∷ []
 
 -- the cutter's rows that need no cut
 unfoldable pub beforeCutting : List Float → ℕ → List Row
-unfolding outlineChecks equalNeighbours
+unfolding outlineChecks equalNeighbours areaNotAboveZero
 beforeCutting cs room = outlineChecks 3 mostPoints cs ++ ringChecks (pointsOf cs) (shortToCut (pointsOf cs) room)
 
 unfoldable pub cutterChecks : List Float → ℕ → List Row

@@ -54,6 +54,10 @@ T = at 0 0 ∷ at 4 0 ∷ at 0 4 ∷ []
 abbrev widest : List Pt
 widest = record { x = negsuc 1023; y = negsuc 1023 } ∷ record { x = pos 1024; y = negsuc 1023 } ∷ at 0 1024 ∷ []
 
+-- counter-clockwise by its area, and without an ear
+abbrev earless : List Pt
+earless = at 0 0 ∷ at 0 1 ∷ at 1 1 ∷ at 2 0 ∷ at 0 2 ∷ []
+
 -- one number just off the grid, on either side
 abbrev off-x : List Pt
 off-x = at 1025 0 ∷ at 1 0 ∷ at 1 1 ∷ []
@@ -128,8 +132,10 @@ text-table =
     ∷ refuses twice 0 5
     ∷ refuses T 70 6
     ∷ refuses P 126 6
-    ∷ refuses P-backwards 126 6
-    ∷ refuses P-backwards 127 7
+    ∷ refuses P-backwards 126 13
+    ∷ refuses P-backwards 127 13
+    ∷ refuses earless 182 6
+    ∷ refuses earless 183 7
     -- the reader: numbers off the grid stay off it
     ∷ reads T 7 (f 0 ∷ f 0 ∷ f 4 ∷ f 0 ∷ f 0 ∷ f 4 ∷ [])
     ∷ reads widest 6 (f- 1024 ∷ f- 1024 ∷ f 1024 ∷ f- 1024 ∷ f 0 ∷ f 1024 ∷ [])

@@ -5,7 +5,7 @@ use oracle::inputs::Side;
 use oracle::lent::{bytes_of, bytes_of_floats};
 use oracle::random::Random;
 use oracle::records::Records;
-use oracle::shapes::{convex, coords, KINDS};
+use oracle::shapes::{convex, coords, counter_clockwise, Outline, KINDS};
 use oracle::slots;
 use std::io::Write;
 
@@ -44,6 +44,30 @@ fn edges(list: &mut impl Side) {
     }
     list.merge(&bytes, &[0; 4 * 1533], 0, 0);
     list.ask(1.0, 1.0, &[0; 4 * 1026]);
+}
+
+/// Outlines that their area or their ears decide.
+#[rustfmt::skip]
+const RINGS: [&[(i32, i32)]; 8] = [
+    // clockwise, on a line, there and back
+    &[(0, 0), (0, 4), (4, 0)],
+    &[(0, 0), (0, 4), (4, 4), (4, 0)],
+    &[(0, 0), (1, 0), (2, 0)],
+    &[(0, 0), (1, 0), (2, 0), (3, 0)],
+    &[(0, 0), (1, 0), (0, 0), (0, 1)],
+    // the last triangle is clockwise
+    &[(0, 0), (0, 1), (1, 0), (1, 2)],
+    // no ear, and none after one cut
+    &[(0, 0), (0, 1), (1, 1), (2, 0), (0, 2)],
+    &[(0, 0), (1, 1), (0, 1), (2, 0), (0, 2)],
+];
+
+/// Each with room, and with a slot too few.
+fn rings(list: &mut impl Side) {
+    for ring in RINGS {
+        outline(list, &coords(ring), 0);
+        outline(list, &coords(ring), -4);
+    }
 }
 
 /// A cloud's hull with this much room to spare.
@@ -128,6 +152,7 @@ fn main() {
         }
     });
     edges(&mut side);
+    rings(&mut side);
     for (_, shape) in KINDS {
         outline(&mut side, &coords(&shape(16)), 8);
         outline(&mut side, &coords(&shape(30)), 0);
@@ -136,10 +161,11 @@ fn main() {
     for _ in 0..8 {
         outline(&mut side, &coords(&slots::random(&mut r)), 0);
     }
-    for _ in 0..400 {
+    for i in 0..400 {
         let n = 3 + r.below(6);
-        let floats: Vec<f32> = (0..2 * n).map(|_| r.within(-3, 3) as f32).collect();
-        outline(&mut side, &floats, 0);
+        let corners: Outline = (0..n).map(|_| (r.within(-3, 3), r.within(-3, 3))).collect();
+        let corners = if i % 4 == 0 { corners } else { counter_clockwise(corners) };
+        outline(&mut side, &coords(&corners), 0);
     }
     let mut rest = Records::new(|_, record: &[u8]| list.extend(record));
     rest.roots(0, 2048);
