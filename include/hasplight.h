@@ -17,6 +17,7 @@
  *      is off the grid                      10  more than 510 triangles
  *   5  two ring neighbours equal            11  a line that is not in form, or too long
  *                                           12  all points on one line
+ *                                           13  an outline's area is not above zero: it goes clockwise, or has none
  */
 #ifndef HASPLIGHT_H
 #define HASPLIGHT_H
@@ -41,7 +42,8 @@ struct hasplight_verdict {
 };
 
 /* Cuts an outline of n corners into n - 2 triangles: three indices each, to the front of `indices`, which has room for 3 (n - 2)
- * of them. Refuses with 1, 2, 3, 4, 5, 6, 7, in this order. */
+ * of them. The outline goes counter-clockwise: its area, and so the sum of the triangles', is above zero. Refuses with 1, 2, 3, 4, 5, 13, 6, 7,
+ * in this order. */
 struct hasplight_answer hasplight_triangulate_ear_clipping(
     const uint8_t *coords, size_t coords_bytes,
     uint8_t *indices, size_t indices_bytes);
@@ -73,7 +75,7 @@ struct hasplight_answer hasplight_convex_hull2_idx(
 
 /* Fills the outline of a line as `POLYGON ((0 0, 4 0, 4 4, 0 4, 0 0))`, of at most 8,192 bytes, without a newline: cuts it, merges the
  * triangles, and writes the areas to the front of `out` as a line that begins with MULTIPOLYGON, without a newline or a zero behind it. For n
- * corners `out` has room for 15 + 56 (n - 2) bytes; 28,575 are enough for any line. Refuses with 11, 2, 3, 4, 5, 6, 7, in this order. */
+ * corners `out` has room for 15 + 56 (n - 2) bytes; 28,575 are enough for any line. Refuses with 11, 2, 3, 4, 5, 13, 6, 7, in this order. */
 struct hasplight_answer hasplight_fill_areas(
     const uint8_t *line, size_t line_bytes,
     uint8_t *out, size_t out_bytes);
