@@ -35,7 +35,7 @@ pub fn fixed() -> Vec<Vec<u8>> {
     lines.extend(EXAMPLES.map(|text| text.trim_end().as_bytes().to_vec()));
     lines.push(long(4082, "1"));
     lines.push(long(4082, "10"));
-    lines.extend([1024, -1024].map(|right| polygon(&round_the_grid(128, right)).into_bytes()));
+    lines.extend([1024, -1024].map(|right| polygon(&round_the_grid(right)).into_bytes()));
     for (corners, end) in [(512, "0 0))"), (513, "0 0))"), (513, "0 0) )"), (514, "0 1))")] {
         lines.push(["POLYGON ((".to_string(), "0 0, ".repeat(corners), end.to_string()].concat().into_bytes());
     }

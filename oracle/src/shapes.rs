@@ -20,9 +20,9 @@ pub fn counter_clockwise(mut outline: Outline) -> Outline {
     outline
 }
 
-/// The corners of the grid so many times, with its right side at `right`: clockwise where that is below 0.
-pub fn round_the_grid(times: usize, right: i32) -> Outline {
-    [(-right, -1024), (right, -1024), (right, 1024), (-right, 1024)].repeat(times)
+/// The corners of the grid 128 times, with its right side at `right`, which is 1024, or -1024 for clockwise: no doubled area is larger in size.
+pub fn round_the_grid(right: i32) -> Outline {
+    [(-right, -1024), (right, -1024), (right, 1024), (-right, 1024)].repeat(128)
 }
 
 fn polar(n: usize, radius: impl Fn(usize, f64) -> f64) -> Outline {
