@@ -55,6 +55,9 @@ module _ (a b : Point) (ha : onGridPt a ≡ true) (hb : onGridPt b ≡ true) {x 
   pub edge-is : toZ w32 (ofZ w32 (toSigned 31 (add binary32 x (fin false 0 (pos 0))))) ≡ cross (ptOf a) (ptOf b)
   edge-is = rw (own, back .1) (toZ-ofZ w32 (cross (ptOf a) (ptOf b)) (stands (cross (ptOf a) (ptOf b)) (omega (arith, edge-small a b ha hb))))
 
+  pub edge-low : natAbs (toZ w32 (ofZ w32 (toSigned 31 (add binary32 x (fin false 0 (pos 0)))))) ≤ 2 ^ 21
+  edge-low = rw edge-is (edge-small a b ha hb)
+
 -- ---- the sum
 
 -- what was added, and what is left to add
@@ -83,31 +86,29 @@ pub summed-first : (ps : List Pt) (f : Point) → onGridPt f ≡ true → ptOf f
 summed-first ps f on e h = record { walk = walk-first ps (Adds ps (pos 0)) f on e h (none-added ps); small = lit≤ tt; passed = h }
 
 -- one edge more, as the code adds it
-module _ (ps : List Pt) {a : Point} {sum i : ℕ} (s : Summed ps a sum i) (few : length ps ≤ mostPoints) (b : Point) (on : onGridPt b ≡ true) (z : ℤ) (is : z ≡ cross (ptOf a) (ptOf b)) where
+module _ (ps : List Pt) {a : Point} {sum i : ℕ} (s : Summed ps a sum i) (few : length ps ≤ mostPoints) (z : ℤ) (low : natAbs z ≤ 2 ^ 21) where
   abbrev added : ℤ
   added = toZ w32 sum +ℤ toZ w32 (ofZ w32 z)
 
-  small-edge : natAbs z ≤ 2 ^ 21
-  small-edge = rw is (edge-small a b (s .walk .on) on)
-
   added-is : added ≡ toZ w32 sum +ℤ z
-  added-is = ap (λ (y : ℤ). toZ w32 sum +ℤ y) (toZ-ofZ w32 z (stands z (omega (arith, small-edge))))
+  added-is = ap (λ (y : ℤ). toZ w32 sum +ℤ y) (toZ-ofZ w32 z (stands z (omega (arith, low))))
 
   added-small : natAbs added ≤ 2 ^ 21 * i
-  added-small = rw added-is (omega (arith, natAbs-add (toZ w32 sum) z, small-edge, s .small))
+  added-small = rw added-is (omega (arith, natAbs-add (toZ w32 sum) z, low, s .small))
 
   pub added-fits : SFits w32 added
   added-fits = stands added (omega (arith, added-small, s .passed))
 
-  read-back : toZ w32 (ofZ w32 added) ≡ toZ w32 sum +ℤ cross (ptOf a) (ptOf b)
-  read-back = toZ-ofZ w32 added added-fits ∙ added-is ∙ ap (λ (y : ℤ). toZ w32 sum +ℤ y) is
+  module _ (b : Point) (is : z ≡ cross (ptOf a) (ptOf b)) where
+    read-back : toZ w32 (ofZ w32 added) ≡ toZ w32 sum +ℤ cross (ptOf a) (ptOf b)
+    read-back = toZ-ofZ w32 added added-fits ∙ added-is ∙ ap (λ (y : ℤ). toZ w32 sum +ℤ y) is
 
-  pub summed-more : i < length ps → ptOf b ≡ point ps i → Summed ps b (ofZ w32 added) (i + 1)
-  summed-more h e = record {
-    walk = rw read-back (walk-more ps (Adds ps (toZ w32 sum)) (s .walk) (Adds ps (toZ w32 sum +ℤ cross (ptOf a) (ptOf b))) h b on e (edge-added ps a b (toZ w32 sum)));
-    small = rw (toZ-ofZ w32 added added-fits) (omega (arith, added-small));
-    passed = omega arith;
-  }
+    pub summed-more : onGridPt b ≡ true → i < length ps → ptOf b ≡ point ps i → Summed ps b (ofZ w32 added) (i + 1)
+    summed-more on h e = record {
+      walk = rw read-back (walk-more ps (Adds ps (toZ w32 sum)) (s .walk) (Adds ps (toZ w32 sum +ℤ cross (ptOf a) (ptOf b))) h b on e (edge-added ps a b (toZ w32 sum)));
+      small = rw (toZ-ofZ w32 added added-fits) (omega (arith, added-small));
+      passed = omega arith;
+    }
 
-  pub summed-last : length ps ≤ i → ptOf b ≡ point ps 0 → toZ w32 (ofZ w32 added) ≡ area2 ps
-  summed-last h e = read-back ∙ last-added ps a b (toZ w32 sum) (walk-last ps (Adds ps (toZ w32 sum)) (s .walk) h b e)
+    pub summed-last : length ps ≤ i → ptOf b ≡ point ps 0 → toZ w32 (ofZ w32 added) ≡ area2 ps
+    summed-last h e = read-back ∙ last-added ps a b (toZ w32 sum) (walk-last ps (Adds ps (toZ w32 sum)) (s .walk) h b e)

@@ -3,7 +3,8 @@ use crate::point::Point;
 use crate::point_at;
 ghost use mathlib.Core.Path.{_≡_};
 ghost use mathlib.Core.Bool.{true, false};
-ghost use Prim.Native.Nat.{_<_, _≤_};
+ghost use Prim.Native.Nat.{_^_, _<_, _≤_};
+ghost use lib.IntN.{natAbs};
 ghost use lib.ListN.{length};
 ghost use Rattle.rules.specs.Limits.{mostPoints};
 ghost use Rattle.rules.specs.Grid.{pointsOf};
@@ -18,6 +19,7 @@ fn edge_area(a: Point, b: Point) -> i32
     requires { ⌜ onGridPt a ≡ true ⌝ }
     requires { ⌜ onGridPt b ≡ true ⌝ }
     ensures { λ r. ⌜ r ≡ cross (ptOf a) (ptOf b) ⌝ }
+    ensures { λ r. ⌜ natAbs r ≤ 2 ^ 21 ⌝ }
 {
     let product = a.perp_dot(b) + 0.0;
     product as i32

@@ -3,7 +3,7 @@
 use Prim.Native.Nat.{ℕ, _*_, _-_, _/_, _%_, _≤_, _<_}
 use mathlib.Core.Path.{_≡_, refl, sym, _∙_, ap}
 use mathlib.Core.Logic.{_≢_}
-use mathlib.Core.Bool.{not, true, false, _||_}
+use mathlib.Core.Bool.{Bool, not, true, false, _||_}
 use mathlib.Core.List.{List, [], _∷_, _++_}
 use lib.Dec.{ltb, eqb}
 use lib.IntN.{pos}
@@ -21,7 +21,7 @@ use Rattle.rules.specs.Plane.{Pt, point, same}
 use Rattle.rules.specs.Grid.{pointsOf}
 use Rattle.rules.specs.Cut.{Cut, stuck, done, cut}
 use Rattle.rules.specs.Measure.{points, area2, Apart}
-use Rattle.rules.specs.Refusals.{_gives_, firstRefusal, equalNeighbours, areaNotAboveZero, isStuck, noEar, outOfRange, onOneLine, countChecks, outlineChecks, beforeCutting, cutterChecks, listChecks, mergerChecks, hullChecks}
+use Rattle.rules.specs.Refusals.{Row, _gives_, firstRefusal, equalNeighbours, areaNotAboveZero, isStuck, noEar, shortToCut, outOfRange, onOneLine, countChecks, outlineChecks, ringChecks, beforeCutting, cutterChecks, listChecks, mergerChecks, hullChecks}
 use Rattle.rules.specs.Entries.{cutter}
 use Rattle.rules.proofs.Rows.{passes, applies, row-on, front-none, front-skips, others-decide}
 use Rattle.rules.proofs.Fronts.{cutter-front, thirteen-front, seven-front, list-front, triangles-front, cloud-front}
@@ -63,7 +63,7 @@ module _ (ps : List Pt) where
 
 module _ (ps : List Pt) where
   -- 13 stands for one that is not above zero, and for nothing else
-  pub passed→above : areaNotAboveZero ps ≡ false → pos 0 <ℤ area2 ps
+  passed→above : areaNotAboveZero ps ≡ false → pos 0 <ℤ area2 ps
   unfolding areaNotAboveZero
   passed→above h = omega lin
 
@@ -75,6 +75,22 @@ module _ (ps : List Pt) where
   unfolding areaNotAboveZero
   not-above→refused h = T→true (leZ (area2 ps) (pos 0)) (h .le)
 
+-- ---- the ring's rows
+
+-- what they leave where none of them applies
+pub record RingPassed (ps : List Pt) (short : Bool) : Type 0 where
+  pub neighbours : Apart ps (countFrom 0 (length ps))
+  pub above : pos 0 <ℤ area2 ps
+  pub roomy : short ≡ false
+
+-- and what is left of rows behind them
+pub ring-passed : (ps : List Pt) (short : Bool) (more : List Row) → firstRefusal (ringChecks ps short ++ more) ≡ 0 → RingPassed ps short × (firstRefusal more ≡ 0)
+ring-passed ps short more e =
+    let (equal, e₅) = passes (equalNeighbours ps) 4 _ e in
+    let (flat, e₁₃) = passes (areaNotAboveZero ps) 12 _ e₅ in
+    let (roomy, e₆) = passes short 5 more e₁₃ in
+    (record { neighbours = no-equals→apart ps equal; above = passed→above ps flat; roomy = roomy }, e₆)
+
 -- ---- the cutter's rows before 7
 
 module _ (cs : List Float) (room : ℕ) where
@@ -84,17 +100,14 @@ module _ (cs : List Float) (room : ℕ) where
   -- what they leave where none of them applies
   pub record Ready : Type 0 where
     pub outlines : Outlined 3 mostPoints cs
-    pub no-equals : equalNeighbours outline ≡ false
-    pub area : areaNotAboveZero outline ≡ false
+    pub ring : RingPassed outline (shortToCut outline room)
     pub fits : 3 * (length outline - 2) ≤ room
 
   pub ready : firstRefusal (beforeCutting cs room) ≡ 0 → Ready
   ready e =
       let none = front-none (cutter-front cs room) e in
-      let (equal, e₅) = passes (equalNeighbours outline) 4 _ (sym (others-decide (cutter-front cs room) none) ∙ e) in
-      let (flat, e₁₃) = passes (areaNotAboveZero outline) 12 _ e₅ in
-      let (short, e₆) = passes (ltb room (3 * (length outline - 2))) 5 _ e₁₃ in
-      record { outlines = outlined 3 mostPoints cs none; no-equals = equal; area = flat; fits = ltb-false room (3 * (length outline - 2)) short }
+      let ring = ring-passed outline (shortToCut outline room) [] (sym (others-decide (cutter-front cs room) none) ∙ e) .0 in
+      record { outlines = outlined 3 mostPoints cs none; ring = ring; fits = ltb-false room (3 * (length outline - 2)) (ring .roomy) }
 
 -- ---- an accepted outline
 
@@ -122,8 +135,8 @@ accepted cs room e =
     record {
       three = r .outlines .at-least;
       at-most = r .outlines .at-most;
-      neighbours = no-equals→apart ps (r .no-equals);
-      above = passed→above ps (r .area);
+      neighbours = r .ring .neighbours;
+      above = r .ring .above;
       fits = r .fits;
       triangles = ts;
       is-cut = is;

@@ -14,11 +14,11 @@ use Rattle.rules.specs.Limits.{mostPoints}
 use Rattle.rules.specs.Plane.{Pt}
 use Rattle.rules.specs.Grid.{pointsOf}
 use Rattle.rules.specs.Cut.{cut}
-use Rattle.rules.specs.Refusals.{Row, _gives_, firstRefusal, offGrid, equalNeighbours, areaNotAboveZero, noEar, shortToCut, countChecks, outlineChecks, ringChecks, beforeCutting, cutterChecks}
+use Rattle.rules.specs.Refusals.{Row, _gives_, firstRefusal, offGrid, noEar, shortToCut, countChecks, outlineChecks, ringChecks, beforeCutting, cutterChecks}
 use Rattle.rules.specs.Lines.{offCorners, fillRoom, beforeRing, fillChecks}
 use Rattle.rules.proofs.Rows.{row-on, row-off, passes, Front, front-gives, front-none, others-decide}
 use Rattle.rules.proofs.Outlines.{counted}
-use Rattle.rules.proofs.Accepted.{Accepted, no-equals→apart, passed→above, not-stuck}
+use Rattle.rules.proofs.Accepted.{Accepted, ring-passed, not-stuck}
 use Rattle.rules.proofs.Fronts.{cutter-front, seven-front}
 
 -- 1 is never given
@@ -63,24 +63,22 @@ module _ (corners : List Pt) (room : ℕ) where
   filled e =
       let first = front-none corners-front e in
       let s = sound corners first in
-      let (equal, e₅) = passes (equalNeighbours corners) 4 _ (sym (others-decide corners-front first) ∙ e) in
-      let (flat, e₁₃) = passes (areaNotAboveZero corners) 12 _ e₅ in
-      let (roomy, e₆) = passes short 5 _ e₁₃ in
-      let (ear, last) = passes (noEar corners) 6 _ e₆ in
+      let (ring, behind) = ring-passed corners short _ (sym (others-decide corners-front first) ∙ e) in
+      let (ear, last) = passes (noEar corners) 6 _ behind in
       let (ts, is) = not-stuck (cut corners) ear in
       let enough : 3 * (length corners - 2) ≤ 3 * (length corners - 2) = omega arith in
       record {
         outline = record {
           three = s .three;
           at-most = s .at-most;
-          neighbours = no-equals→apart corners equal;
-          above = passed→above corners flat;
+          neighbours = ring .neighbours;
+          above = ring .above;
           fits = enough;
           triangles = ts;
           is-cut = is;
         };
         on-grid = s .on-grid;
-        fits = ltb-false room (fillRoom (length corners)) roomy;
+        fits = ltb-false room (fillRoom (length corners)) (ring .roomy);
       }
 
 -- ---- the cutter's

@@ -34,8 +34,7 @@ edge-area-requires c κs = (c .before .before .loop .inv .walk .on, c .point-at2
 add-sum : tie.Need-add-sum Inv-loop μ-loop
 add-sum c =
     let turn = c .before .before in
-    let b = c .before .point-at2 in
-    added-fits _ (turn .before .loop .inv) (start (turn .before) .pre .1 .1) (b .result) (b .ensures .0) _ (c .edge-area .ensures)
+    added-fits _ (turn .before .loop .inv) (start (turn .before) .pre .1 .1) (c .edge-area .result) (c .edge-area .ensures .1)
 
 add-i : tie.Need-add-i Inv-loop μ-loop
 add-i c = omega arith
@@ -47,7 +46,8 @@ loop-again : tie.Need-loop-again Inv-loop μ-loop
 loop-again c =
     let turn = c .before .before in
     let b = c .before .point-at2 in
-    summed-more _ (turn .before .loop .inv) (start (turn .before) .pre .1 .1) (b .result) (b .ensures .0) _ (c .edge-area .ensures) (within _ _ (turn .loop-test .taken)) (b .ensures .1)
+    let edge = c .edge-area in
+    summed-more _ (turn .before .loop .inv) (start (turn .before) .pre .1 .1) (edge .result) (edge .ensures .1) (b .result) (edge .ensures .0) (b .ensures .0) (within _ _ (turn .loop-test .taken)) (b .ensures .1)
 
 edge-area-requires-2 : tie.Need-edge-area-requires-2 Inv-loop μ-loop
 edge-area-requires-2 c κs = search needs
@@ -55,14 +55,14 @@ edge-area-requires-2 c κs = search needs
 add-result : tie.Need-add-result Inv-loop μ-loop
 add-result c =
     let loop = c .before .before in
-    let first = loop .before .point-at in
-    added-fits _ (loop .loop .inv) (start loop .pre .1 .1) (first .result) (first .ensures .0) _ (c .edge-area2 .ensures)
+    added-fits _ (loop .loop .inv) (start loop .pre .1 .1) (c .edge-area2 .result) (c .edge-area2 .ensures .1)
 
 returns : tie.Need-returns Inv-loop μ-loop
 returns c =
     let loop = c .before .before in
     let first = loop .before .point-at in
-    summed-last _ (loop .loop .inv) (start loop .pre .1 .1) (first .result) (first .ensures .0) _ (c .edge-area2 .ensures) (past _ _ (c .before .loop-test .left)) (first .ensures .1)
+    let edge = c .edge-area2 in
+    summed-last _ (loop .loop .inv) (start loop .pre .1 .1) (edge .result) (edge .ensures .1) (first .result) (edge .ensures .0) (past _ _ (c .before .loop-test .left)) (first .ensures .1)
 
 pub area2-spec : {M : Type 1} → statement M
 area2-spec =
