@@ -35,7 +35,9 @@ struct hasplight_answer {
     uint32_t count;
 };
 
-/* answer: 1 inside, 0 outside or refused */
+/* answer: one of the three; outside beside a refusal */
+enum { HASPLIGHT_OUTSIDE = 0, HASPLIGHT_INSIDE = 1, HASPLIGHT_BORDER = 2 };
+
 struct hasplight_verdict {
     uint32_t number;
     uint32_t answer;
@@ -57,12 +59,13 @@ struct hasplight_answer hasplight_hertel_mehlhorn_idx(
     uint8_t *indices, size_t indices_bytes,
     uint8_t *lengths, size_t lengths_bytes);
 
-/* Whether (x, y) is inside the outline: whether it crosses an odd number of edges. Refuses with 1, 3, 4, in this order. */
+/* Where (x, y) is: on the border of the outline, which is on some edge, ends counted; or else inside, where it crosses an odd number of edges; or
+ * outside. Refuses with 1, 3, 4, in this order. */
 struct hasplight_verdict hasplight_point_in_poly2d(
     float x, float y,
     const uint8_t *coords, size_t coords_bytes);
 
-/* The same for a convex outline, whichever way round it goes; its border is inside. */
+/* The same for a convex outline, whichever way round it goes, with two answers: inside, which its border is too, and outside. */
 struct hasplight_verdict hasplight_point_in_convex_poly2d(
     float x, float y,
     const uint8_t *coords, size_t coords_bytes);

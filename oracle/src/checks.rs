@@ -16,6 +16,8 @@ pub struct Linked {
     pub accepted: u64,
     /// Of those accepted, the cuts of outlines that pass a point twice.
     pub twice: u64,
+    /// Spots on the border of an outline.
+    pub border: u64,
     pub filled: u64,
     pub hulls: Tally,
 }
@@ -70,14 +72,15 @@ impl Side for Linked {
 
     fn ask(&mut self, x: f32, y: f32, coords: &[u8]) {
         let tests = [
-            ("inside", ours::point_in_poly2d(x, y, coords), expected::point_in_poly2d(x, y, coords)),
-            ("inside, convex", ours::point_in_convex_poly2d(x, y, coords), expected::point_in_convex_poly2d(x, y, coords)),
+            ("spot", ours::point_in_poly2d(x, y, coords), expected::point_in_poly2d(x, y, coords)),
+            ("spot, convex", ours::point_in_convex_poly2d(x, y, coords), expected::point_in_convex_poly2d(x, y, coords)),
         ];
         for (entry, r, s) in tests {
             if r != s {
                 differ(entry, &format!("({x}, {y}), coords {coords:?}"), &format!("{r:?}"), &format!("{s:?}"));
             }
             self.inputs += 1;
+            self.border += (r.answer == 2) as u64;
         }
     }
 

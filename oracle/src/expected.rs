@@ -1,9 +1,10 @@
 //! What must come back: the refusals in document 01's order, with request M-105's between 5 and 6, and on accepted input what the crate
-//! gives; of a cut where a point is passed twice, what request M-103 gives, and of a hull, what request M-104 gives.
+//! gives; of a cut where a point is passed twice, what request M-103 gives, of a hull, what request M-104 gives, and of a spot on the border of an
+//! outline, what request M-106 gives.
 use crate::hull::{self, Relation};
 use crate::lent::{bytes_of, words};
 use crate::math::Vector;
-use crate::plane::{area2, whole};
+use crate::plane::{area2, on_border, whole};
 use crate::{cutter, parry};
 
 #[repr(C)]
@@ -13,6 +14,7 @@ pub struct Answer {
     pub count: u32,
 }
 
+/// The answer is 0 for outside or refused, 1 for inside, 2 for border.
 #[repr(C)]
 #[derive(Clone, Copy, Debug, PartialEq, Eq)]
 pub struct Verdict {
@@ -163,7 +165,7 @@ pub fn beside_crate(coords: &[u8], corners: &[u8]) -> Relation {
     hull::relation(&ps, &corners, &theirs)
 }
 
-fn asked(x: f32, y: f32, coords: &[u8], test: fn(Vector, &[Vector]) -> bool) -> Verdict {
+fn asked(x: f32, y: f32, coords: &[u8], test: fn(Vector, &[Vector]) -> u32) -> Verdict {
     let fs = floats(coords);
     if fs.len() % 2 == 1 {
         return Verdict { number: 1, answer: 0 };
@@ -174,15 +176,22 @@ fn asked(x: f32, y: f32, coords: &[u8], test: fn(Vector, &[Vector]) -> bool) -> 
     if !on_grid(x) || !on_grid(y) || !fs.iter().all(|&f| on_grid(f)) {
         return Verdict { number: 4, answer: 0 };
     }
-    Verdict { number: 0, answer: test(Vector { x, y }, &points(&fs)) as u32 }
+    Verdict { number: 0, answer: test(Vector { x, y }, &points(&fs)) }
+}
+
+fn border_first(p: Vector, ps: &[Vector]) -> u32 {
+    if on_border(whole(&[p])[0], &whole(ps)) {
+        return 2;
+    }
+    parry::point_in_poly2d(p, ps) as u32
 }
 
 pub fn point_in_poly2d(x: f32, y: f32, coords: &[u8]) -> Verdict {
-    asked(x, y, coords, parry::point_in_poly2d)
+    asked(x, y, coords, border_first)
 }
 
 pub fn point_in_convex_poly2d(x: f32, y: f32, coords: &[u8]) -> Verdict {
-    asked(x, y, coords, parry::point_in_convex_poly2d)
+    asked(x, y, coords, |p, ps| parry::point_in_convex_poly2d(p, ps) as u32)
 }
 
 /// The largest radicand.

@@ -134,8 +134,32 @@ fn random_list(r: &mut Random, points: usize) -> Vec<u8> {
     bytes_of(&(0..n).map(|_| r.below(points.max(1)) as u32).collect::<Vec<_>>())
 }
 
+/// A point on the line of an edge: on the edge, or one step beyond an end.
+fn along_edge(r: &mut Random, outline: &Outline) -> (i32, i32) {
+    let i = r.below(outline.len());
+    let (a, b) = (outline[i], outline[(i + 1) % outline.len()]);
+    let (dx, dy) = (b.0 - a.0, b.1 - a.1);
+    let steps = common_divisor(dx.abs(), dy.abs()).max(1);
+    let k = r.within(-1, steps + 1);
+    (a.0 + k * dx / steps, a.1 + k * dy / steps)
+}
+
+fn common_divisor(a: i32, b: i32) -> i32 {
+    if b == 0 { a } else { common_divisor(b, a % b) }
+}
+
+/// A point near the middle, a corner, or a point on the line of an edge.
+fn random_spot(r: &mut Random, outline: &Outline) -> (i32, i32) {
+    match r.below(4) {
+        0 | 1 if outline.is_empty() => (r.within(-12, 12), r.within(-12, 12)),
+        0 => outline[r.below(outline.len())],
+        1 => along_edge(r, outline),
+        _ => (r.within(-12, 12), r.within(-12, 12)),
+    }
+}
+
 fn random_ask(side: &mut impl Side, r: &mut Random, outline: &Outline, bytes: &[u8]) {
-    let (x, y) = if outline.is_empty() || r.below(2) == 0 { (r.within(-12, 12), r.within(-12, 12)) } else { outline[r.below(outline.len())] };
+    let (x, y) = random_spot(r, outline);
     side.ask(x as f32, y as f32 + [0.0, 0.0, 0.0, 1.0][r.below(4)], bytes);
     if r.below(8) == 0 {
         side.ask(FLOATS[r.below(FLOATS.len())], y as f32, bytes);

@@ -17,12 +17,14 @@ pub struct Records<F: FnMut(u64, &[u8])> {
     pub accepted: u64,
     /// Of those accepted, the cuts of outlines that pass a point twice.
     pub twice: u64,
+    /// Spots on the border of an outline.
+    pub border: u64,
     pub hulls: Tally,
 }
 
 impl<F: FnMut(u64, &[u8])> Records<F> {
     pub fn new(put: F) -> Records<F> {
-        Records { put, records: 0, inputs: 0, accepted: 0, twice: 0, hulls: Tally::default() }
+        Records { put, records: 0, inputs: 0, accepted: 0, twice: 0, border: 0, hulls: Tally::default() }
     }
 
     fn record(&mut self, entry: u32, parts: [&[u8]; 4], number: u32, count: u32) {
@@ -55,6 +57,7 @@ impl<F: FnMut(u64, &[u8])> Side for Records<F> {
         let spot = bytes_of_floats(&[x, y]);
         let v = expected::point_in_poly2d(x, y, coords);
         self.record(3, [coords, &spot, &[], &[]], v.number, v.answer);
+        self.border += (v.answer == 2) as u64;
         let v = expected::point_in_convex_poly2d(x, y, coords);
         self.record(4, [coords, &spot, &[], &[]], v.number, v.answer);
     }
@@ -87,6 +90,6 @@ pub fn shown(record: &[u8]) -> String {
         parts.push(part);
         rest = behind;
     }
-    let entry = ["cut", "merge", "inside", "inside, convex", "roots", "hull"][head[0] as usize - 1];
+    let entry = ["cut", "merge", "spot", "spot, convex", "roots", "hull"][head[0] as usize - 1];
     format!("{entry}: {parts:?}\n  expected: number {}, count or answer {}", head[5], head[6])
 }

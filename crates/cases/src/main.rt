@@ -63,10 +63,47 @@ fn spots_of_few() {
     let one = [1.0f32, 1.0];
     let two = [0.0f32, 0.0, 2.0, 2.0];
     ask(b"no corners", 0.0, 0.0, &none);
+    ask(b"one corner, asked there", 1.0, 1.0, &one);
+    ask(b"one corner, asked beside it", 1.0, 2.0, &one);
+    ask(b"two corners, between them", 1.0, 1.0, &two);
+    ask(b"two corners, beyond them", 9.0, 9.0, &two);
     ask_convex(b"no corners, convex", 0.0, 0.0, &none);
     ask_convex(b"one corner, convex", 7.0, -9.0, &one);
     ask_convex(b"two corners, convex, on their line", 9.0, 9.0, &two);
     ask_convex(b"two corners, convex, off their line", 9.0, 8.0, &two);
+}
+
+// Inside, outside, and the border: P, and P with a slot to its middle.
+fn spots_by_the_border() {
+    let p = square();
+    let slotted = [
+        0.0f32,
+        0.0,
+        4.0,
+        0.0,
+        4.0,
+        2.0,
+        2.0,
+        2.0,
+        4.0,
+        2.0,
+        4.0,
+        4.0,
+        0.0,
+        4.0,
+    ];
+    ask(b"P asked at (2,2)", 2.0, 2.0, &p);
+    ask(b"P asked at (5,2)", 5.0, 2.0, &p);
+    ask(b"P at a corner", 4.0, 4.0, &p);
+    ask(b"P on the prolongation of an edge", 6.0, 0.0, &p);
+    ask(b"on the line of a slot", 3.0, 2.0, &slotted);
+    ask(b"at the end of the slot", 2.0, 2.0, &slotted);
+    ask(
+        b"on its prolongation, level with its corners",
+        1.0,
+        2.0,
+        &slotted,
+    );
 }
 
 // And the grid.
@@ -298,6 +335,7 @@ fn main() {
     shapes_cut();
     square_asked();
     text(b"\nSpots\n");
+    spots_by_the_border();
     spots_of_few();
     spots_on_the_grid();
     text(b"\nOutlines\n");

@@ -175,6 +175,7 @@ fn verdict(name: &[u8], v: Verdict) {
         Verdict::Refused(n) => refused(n),
         Verdict::Outside => text(b" outside\n"),
         Verdict::Inside => text(b" inside\n"),
+        Verdict::Border => text(b" border\n"),
     }
 }
 

@@ -1,9 +1,9 @@
 -- The point tests' promise over the bytes.
 use mathlib.Core.Path.{_≡_, _∙_, ap}
-use mathlib.Core.Bool.{Bool, false, cond}
 use mathlib.Core.List.{List}
 use lib.Ieee.{Float}
 use Rattle.rules.specs.Plane.{Pt}
+use Rattle.rules.specs.Border.{Position, positionNumber}
 use Rattle.rules.specs.Entries.{asking}
 use Rattle.point_in_poly2d.specs.Verdicts.{numberOf, answerOf, verdict}
 use Rattle.point_in_poly2d.specs.declared.Verdict as Inner
@@ -11,11 +11,11 @@ use Rattle.point_in_poly2d.proofs.Asked.{verdict-number, verdict-answer}
 use Rattle.hasplight.specs.Promise.{PointGives}
 use Rattle.hasplight.specs.declared.Verdict.{Verdict}
 
-module _ (test : Pt → List Pt → Bool) (x y : Float) (cs : List Float) where
+module _ (test : Pt → List Pt → Position) (x y : Float) (cs : List Float) where
   -- a verdict told as two numbers
-  pub asked-told : (v : Inner.Verdict) (r : Verdict) → v ≡ verdict (asking false test x y cs) → (r .number ≡ numberOf v) × (r .answer ≡ cond (answerOf v) 1 0) → PointGives test x y cs r
+  pub asked-told : (v : Inner.Verdict) (r : Verdict) → v ≡ verdict (asking test x y cs) → (r .number ≡ numberOf v) × (r .answer ≡ positionNumber (answerOf v)) → PointGives test x y cs r
   asked-told v r is (i, j) =
       record {
-        number = i ∙ ap numberOf is ∙ verdict-number (asking false test x y cs);
-        answer = j ∙ ap (λ (v : Inner.Verdict). cond (answerOf v) 1 0) is ∙ ap (λ (t : Bool). cond t 1 0) (verdict-answer test x y cs);
+        number = i ∙ ap numberOf is ∙ verdict-number (asking test x y cs);
+        answer = j ∙ ap (λ (v : Inner.Verdict). positionNumber (answerOf v)) is ∙ ap positionNumber (verdict-answer test x y cs);
       }

@@ -1,9 +1,8 @@
--- Over the bytes: a refused call reports a count of 0, or "no", and leaves every lent byte as it was; after 0 the bytes beyond what is
+-- Over the bytes: a refused call reports a count of 0, or 0 for outside, and leaves every lent byte as it was; after 0 the bytes beyond what is
 -- reported keep their contents.
 use Prim.Native.Nat.{ℕ, _*_}
 use mathlib.Core.Path.{_≡_, refl, sym, _∙_, ap}
 use mathlib.Core.Logic.{_≢_}
-use mathlib.Core.Bool.{Bool, false, cond}
 use mathlib.Core.List.{List, [], map}
 use native.Mathlib.Omega.{arith}
 use lib.ListN.{length, take, drop, length-map}
@@ -11,6 +10,7 @@ use lib.Seq.{length-take-le}
 use lib.Ieee.{Float}
 use Rattle.rules.specs.Plane.{Pt}
 use Rattle.rules.specs.Layout.{flatten, split, over}
+use Rattle.rules.specs.Border.{Position, positionNumber}
 use Rattle.rules.specs.Entries.{merger, writtenPieces}
 use Rattle.rules.proofs.Answers.{over-beyond, merger-none, asking-none}
 use Rattle.words.specs.Bytes.{wordsOf, floatsOf, bytesOf}
@@ -83,5 +83,5 @@ module _ (coords triangles indices lengths : List ℕ) (r : Answer) (indices' le
 
 -- ---- the point tests
 
-pub point-refused : (test : Pt → List Pt → Bool) (x y : Float) (coords : List ℕ) (r : Verdict) → PointPromise test x y coords r → r .number ≢ 0 → r .answer ≡ 0
-point-refused test x y coords r p d = p .answer ∙ ap (λ (t : Bool). cond t 1 0) (asking-none false test x y (floatsOf coords) (λ e. d (p .number ∙ e)))
+pub point-refused : (test : Pt → List Pt → Position) (x y : Float) (coords : List ℕ) (r : Verdict) → PointPromise test x y coords r → r .number ≢ 0 → r .answer ≡ 0
+point-refused test x y coords r p d = p .answer ∙ ap positionNumber (asking-none test x y (floatsOf coords) (λ e. d (p .number ∙ e)))

@@ -1,10 +1,10 @@
 -- Two results that a promise allows are equal.
 use Prim.Native.Nat.{ℕ}
 use mathlib.Core.Path.{_≡_, sym, _∙_}
-use mathlib.Core.Bool.{Bool}
 use mathlib.Core.List.{List}
 use lib.Ieee.{Float}
 use Rattle.rules.specs.Plane.{Pt}
+use Rattle.rules.specs.Border.{Position}
 use Rattle.rules.specs.Entries.{cutter}
 use Rattle.hasplight.specs.Promise.{Reported, MergerPromise, PointPromise}
 use Rattle.entries.specs.declared.Answer.{Answer}
@@ -24,7 +24,7 @@ pub merger-unique :
 merger-unique coords triangles indices lengths r s indices₁ lengths₁ indices₂ lengths₂ p q =
     (answers-equal r s (p .number ∙ sym (q .number)) (p .count ∙ sym (q .count)), p .bytes ∙ sym (q .bytes), p .length-bytes ∙ sym (q .length-bytes))
 
-pub point-unique : (test : Pt → List Pt → Bool) (x y : Float) (coords : List ℕ) (r s : Verdict) → PointPromise test x y coords r → PointPromise test x y coords s → r ≡ s
+pub point-unique : (test : Pt → List Pt → Position) (x y : Float) (coords : List ℕ) (r s : Verdict) → PointPromise test x y coords r → PointPromise test x y coords s → r ≡ s
 point-unique test x y coords r s p q = verdicts-equal (p .number ∙ sym (q .number)) (p .answer ∙ sym (q .answer))
   where
     verdicts-equal : r .number ≡ s .number → r .answer ≡ s .answer → r ≡ s

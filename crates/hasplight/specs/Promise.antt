@@ -2,7 +2,7 @@
 -- words, what is reported is written to the front of the lent bytes, and all other bytes keep their contents.
 use Prim.Native.Nat.{ℕ, zero, suc, _+_, _*_, _/_}
 use mathlib.Core.Path.{_≡_}
-use mathlib.Core.Bool.{Bool, false, cond}
+use mathlib.Core.Bool.{cond}
 use mathlib.Core.List.{List, map}
 use lib.Dec.{ltb}
 use lib.ListN.{length, take}
@@ -10,6 +10,7 @@ use lib.Ieee.{Float}
 use Rattle.rules.specs.Limits.{mostIndices}
 use Rattle.rules.specs.Plane.{Pt}
 use Rattle.rules.specs.Layout.{flatten, over}
+use Rattle.rules.specs.Border.{Position, positionNumber}
 use Rattle.rules.specs.Entries.{cutter, merger, asking, huller, writtenPieces, writtenCorners}
 use Rattle.words.specs.Bytes.{wordsOf, floatsOf, bytesOf}
 use Rattle.entries.specs.declared.Answer.{Answer}
@@ -48,11 +49,11 @@ abbrev pub MergerPromise : List ℕ → List ℕ → List ℕ → List ℕ → A
 MergerPromise coords triangles = MergerGives (floatsOf coords) (wordsOf triangles)
 
 -- what a point test gives back for these coordinates
-pub record PointGives (test : Pt → List Pt → Bool) (x y : Float) (cs : List Float) (r : Verdict) : Type 0 where
-  pub number : r .number ≡ asking false test x y cs .number
-  pub answer : r .answer ≡ cond (asking false test x y cs .answer) 1 0
+pub record PointGives (test : Pt → List Pt → Position) (x y : Float) (cs : List Float) (r : Verdict) : Type 0 where
+  pub number : r .number ≡ asking test x y cs .number
+  pub answer : r .answer ≡ positionNumber (asking test x y cs .answer)
 
-abbrev pub PointPromise : (Pt → List Pt → Bool) → Float → Float → List ℕ → Verdict → Type 0
+abbrev pub PointPromise : (Pt → List Pt → Position) → Float → Float → List ℕ → Verdict → Type 0
 PointPromise test x y coords = PointGives test x y (floatsOf coords)
 
 -- what the hull of a cloud gives back for these coordinates

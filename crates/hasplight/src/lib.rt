@@ -18,15 +18,14 @@ use words::read_floats;
 use words::read_words;
 use words::write_words;
 ghost use mathlib.Core.Path.{_≡_};
-ghost use mathlib.Core.Bool.{cond};
 ghost use Prim.Native.Nat.{_≤_};
 ghost use lib.ListN.{length};
 ghost use Rattle.rules.specs.Limits.{mostCoordinates, mostIndices};
-ghost use Rattle.rules.specs.Crossing.{inside, insideConvex};
+ghost use Rattle.rules.specs.Border.{positionNumber, position, convexPosition};
 ghost use Rattle.point_in_poly2d.specs.Verdicts.{numberOf, answerOf, testOf};
 ghost use Rattle.hasplight.specs.Promise.{CutterGives, CutterPromise, MergerGives, MergerPromise, PointPromise};
 
-// The number of a refusal, and 1 for inside, 0 for outside or refused.
+// The number of a refusal, and 0 for outside or refused, 1 for inside, 2 for border.
 #[repr(C)]
 pub struct Verdict {
     pub number: u32,
@@ -111,7 +110,7 @@ pub extern "C" fn hasplight_hertel_mehlhorn_idx(
 
 // A point test's verdict as two numbers.
 fn told(v: point_in_poly2d::Verdict) -> Verdict
-    ensures { λ r. ⌜ (r .number ≡ numberOf v) × (r .answer ≡ cond (answerOf v) 1 0) ⌝ }
+    ensures { λ r. ⌜ (r .number ≡ numberOf v) × (r .answer ≡ positionNumber (answerOf v)) ⌝ }
 {
     match v {
         point_in_poly2d::Verdict::Refused(number) => Verdict { number, answer: 0 },
@@ -122,6 +121,10 @@ fn told(v: point_in_poly2d::Verdict) -> Verdict
         point_in_poly2d::Verdict::Inside => Verdict {
             number: 0,
             answer: 1,
+        },
+        point_in_poly2d::Verdict::Border => Verdict {
+            number: 0,
+            answer: 2,
         },
     }
 }
@@ -135,14 +138,14 @@ fn ask(x: f32, y: f32, coords: &[u8], convex: bool) -> Verdict
 
 #[no_mangle]
 pub extern "C" fn hasplight_point_in_poly2d(x: f32, y: f32, coords: &[u8]) -> Verdict
-    ensures { λ r. ⌜ PointPromise inside x y (now (coords .entry)) r ⌝ }
+    ensures { λ r. ⌜ PointPromise position x y (now (coords .entry)) r ⌝ }
 {
     ask(x, y, coords, false)
 }
 
 #[no_mangle]
 pub extern "C" fn hasplight_point_in_convex_poly2d(x: f32, y: f32, coords: &[u8]) -> Verdict
-    ensures { λ r. ⌜ PointPromise insideConvex x y (now (coords .entry)) r ⌝ }
+    ensures { λ r. ⌜ PointPromise convexPosition x y (now (coords .entry)) r ⌝ }
 {
     ask(x, y, coords, true)
 }

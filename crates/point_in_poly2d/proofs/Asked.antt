@@ -3,7 +3,7 @@ use Prim.Native.Nat.{ℕ, zero, suc}
 use native.Mathlib.Omega.{arith}
 use mathlib.Core.Path.{_≡_, refl, sym, _∙_, ap}
 use mathlib.Core.Logic.{_≢_}
-use mathlib.Core.Bool.{Bool, true, false, cond, not, _||_}
+use mathlib.Core.Bool.{true, false, not, _||_}
 use mathlib.Core.List.{List, [], _∷_}
 use lib.Ieee.{Float}
 use Rattle.algebra.proofs.Equal.{or-false, not-false}
@@ -11,34 +11,35 @@ use Rattle.rules.specs.Limits.{mostPoints}
 use Rattle.rules.specs.Plane.{Pt}
 use Rattle.rules.specs.Grid.{onGrid, pointOf, pointsOf}
 use Rattle.rules.specs.Refusals.{_gives_, offGrid, firstRefusal, outlineChecks, pointTestChecks}
+use Rattle.rules.specs.Border.{Position, outside, inside, border}
 use Rattle.rules.specs.Entries.{Asking, asking, pointInPoly2d, pointInConvexPoly2d}
 use Rattle.rules.proofs.Rows.{passes, front-none, others-decide}
 use Rattle.rules.proofs.Fronts.{asked-front}
 use Rattle.rules.proofs.Outlines.{outlined}
-use Rattle.rules.proofs.Answers.{asking-number, asking-answered, asking-refused}
+use Rattle.rules.proofs.Answers.{asking-number, asking-answered, asking-refused, asking-none}
 use Rattle.grid.specs.declared.point.Point.{Point}
 use Rattle.grid.specs.Points.{onGridPt}
 use Rattle.point_in_poly2d.specs.declared.Verdict.{Verdict}
-use Rattle.point_in_poly2d.specs.declared.Verdict.the-variants.{Refused, Outside, Inside}
-use Rattle.point_in_poly2d.specs.Verdicts.{numberOf, answerOf, verdict}
+use Rattle.point_in_poly2d.specs.declared.Verdict.the-variants.{Refused}
+use Rattle.point_in_poly2d.specs.Verdicts.{numberOf, answerOf, answered, verdict}
 
 -- ---- the verdict of a refused and of an answered question
 
-refusing : (n : ℕ) → n ≢ 0 → (b : Bool) → verdict (record { number = n; answer = b }) ≡ Refused n
-refusing zero d b = absurd (d refl)
-refusing (suc n) d b = refl
+refusing : (n : ℕ) → n ≢ 0 → (a : Position) → verdict (record { number = n; answer = a }) ≡ Refused n
+refusing zero d a = absurd (d refl)
+refusing (suc n) d a = refl
 
-module _ (test : Pt → List Pt → Bool) (x y : Float) (cs : List Float) (n : ℕ) (is : n ≡ firstRefusal (pointTestChecks x y cs)) where
-  number-is : asking false test x y cs .number ≡ n
-  number-is = asking-number false test x y cs ∙ sym is
+module _ (test : Pt → List Pt → Position) (x y : Float) (cs : List Float) (n : ℕ) (is : n ≡ firstRefusal (pointTestChecks x y cs)) where
+  number-is : asking test x y cs .number ≡ n
+  number-is = asking-number test x y cs ∙ sym is
 
-  pub refused : n ≢ 0 → Refused n ≡ verdict (asking false test x y cs)
+  pub refused : n ≢ 0 → Refused n ≡ verdict (asking test x y cs)
   refused d =
-      let r = asking-refused false test x y cs (λ e. d (sym number-is ∙ e)) in
-      sym (ap verdict r ∙ ap (λ m. verdict (record { number = m; answer = false })) number-is ∙ refusing n d false)
+      let r = asking-refused test x y cs (λ e. d (sym number-is ∙ e)) in
+      sym (ap verdict r ∙ ap (λ m. verdict (record { number = m; answer = outside })) number-is ∙ refusing n d outside)
 
-  pub answered : n ≡ 0 → {t : Bool} → t ≡ test (pointOf x y) (pointsOf cs) → cond t Inside Outside ≡ verdict (asking false test x y cs)
-  answered e i = ap (λ (b : Bool). cond b Inside Outside) i ∙ sym (ap verdict (asking-answered false test x y cs (number-is ∙ e)))
+  pub accepted-answer : n ≡ 0 → answered (test (pointOf x y) (pointsOf cs)) ≡ verdict (asking test x y cs)
+  accepted-answer e = sym (ap verdict (asking-answered test x y cs (number-is ∙ e)))
 
 -- ---- the outline's rows stand in front of the asked point's
 
@@ -65,23 +66,25 @@ accepted x y cs n e h p i j =
 
 -- ---- the verdict has the number and the answer that the rules give, refused or not
 
-verdict-number-of : (n : ℕ) (b : Bool) → numberOf (verdict (record { number = n; answer = b })) ≡ n
-verdict-number-of zero true = refl
-verdict-number-of zero false = refl
-verdict-number-of (suc n) b = refl
+verdict-number-of : (n : ℕ) (a : Position) → numberOf (verdict (record { number = n; answer = a })) ≡ n
+verdict-number-of zero outside = refl
+verdict-number-of zero inside = refl
+verdict-number-of zero border = refl
+verdict-number-of (suc n) a = refl
 
-pub verdict-number : (r : Asking Bool) → numberOf (verdict r) ≡ r .number
+pub verdict-number : (r : Asking) → numberOf (verdict r) ≡ r .number
 verdict-number r = verdict-number-of (r .number) (r .answer)
 
-verdict-answer-of : (n : ℕ) (b : Bool) → (n ≢ 0 → b ≡ false) → answerOf (verdict (record { number = n; answer = b })) ≡ b
-verdict-answer-of zero true h = refl
-verdict-answer-of zero false h = refl
-verdict-answer-of (suc n) b h = sym (h (λ e. absurd (omega arith)))
+verdict-answer-of : (n : ℕ) (a : Position) → (n ≢ 0 → a ≡ outside) → answerOf (verdict (record { number = n; answer = a })) ≡ a
+verdict-answer-of zero outside h = refl
+verdict-answer-of zero inside h = refl
+verdict-answer-of zero border h = refl
+verdict-answer-of (suc n) a h = sym (h (λ e. absurd (omega arith)))
 
-pub verdict-answer : (test : Pt → List Pt → Bool) (x y : Float) (cs : List Float) → answerOf (verdict (asking false test x y cs)) ≡ asking false test x y cs .answer
+pub verdict-answer : (test : Pt → List Pt → Position) (x y : Float) (cs : List Float) → answerOf (verdict (asking test x y cs)) ≡ asking test x y cs .answer
 verdict-answer test x y cs =
-    let r = asking false test x y cs in
-    verdict-answer-of (r .number) (r .answer) (λ d. ap (λ (r : Asking Bool). r .answer) (asking-refused false test x y cs d))
+    let r = asking test x y cs in
+    verdict-answer-of (r .number) (r .answer) (λ d. asking-none test x y cs d)
 
 -- ---- two verdicts that a promise allows are equal
 

@@ -1,3 +1,5 @@
+pub mod Dots
+pub mod Ways
 pub mod Crossings
 pub mod Ring
 pub mod Words

@@ -20,7 +20,8 @@ ghost use Rattle.rules.specs.Refusals.{offGrid, firstRefusal, pointTestChecks};
 ghost use Rattle.rules.specs.Entries.{asking};
 ghost use Rattle.grid.specs.Points.{onGridPt, ptOf};
 ghost use Rattle.words.specs.Bytes.{floatsOf};
-ghost use Rattle.point_in_poly2d.specs.Verdicts.{verdict, testOf};
+ghost use Rattle.point_in_poly2d.specs.Edges.{Way};
+ghost use Rattle.point_in_poly2d.specs.Verdicts.{answered, verdict, testOf};
 
 // Whether the float with these bits is on the grid; no NaN is.
 fn bits_on_grid(bits: u32) -> bool
@@ -82,27 +83,38 @@ fn point_at(bytes: &[u8], i: usize) -> Point
     }
 }
 
-// One of the two tests, edge by edge, from the edge that comes from the last point on.
-fn walk(p: Point, bytes: &[u8], convex: bool) -> bool
+// The way from p to point number i.
+fn way_to(p: Point, bytes: &[u8], i: usize) -> Point
     requires { ⌜ onGridPt p ≡ true ⌝ }
     requires { ⌜ offGrid (floatsOf (now bytes)) ≡ false ⌝ }
-    ensures { λ r. ⌜ r ≡ testOf convex (ptOf p) (pointsOf (floatsOf (now (bytes .entry)))) ⌝ }
+    requires { ⌜ i * 8 + 7 < length (now bytes) ⌝ }
+    ensures { λ d. ⌜ Way p (Rules.point (pointsOf (floatsOf (now (bytes .entry)))) i) d ⌝ }
+{
+    point_at(bytes, i).minus(p)
+}
+
+// One of the two tests, edge by edge, from the edge that comes from the last point on.
+fn walk(p: Point, bytes: &[u8], convex: bool) -> Verdict
+    requires { ⌜ onGridPt p ≡ true ⌝ }
+    requires { ⌜ offGrid (floatsOf (now bytes)) ≡ false ⌝ }
+    ensures { λ r. ⌜ r ≡ answered (testOf convex (ptOf p) (pointsOf (floatsOf (now (bytes .entry))))) ⌝ }
 {
     let n = bytes.len() / 8;
     if n == 0 {
-        return false;
+        return Verdict::Outside;
     }
     let mut seen = Seen {
         odd: false,
+        touched: false,
         left: false,
         right: false,
     };
-    let mut a = point_at(bytes, n - 1);
+    let mut d = way_to(p, bytes, n - 1);
     let mut i = 0;
     while i < n {
-        let b = point_at(bytes, i);
-        seen = pass(seen, p, a, b, convex);
-        a = b;
+        let e = way_to(p, bytes, i);
+        seen = pass(seen, d, e, convex);
+        d = e;
         i += 1;
     }
     told(seen, convex)
@@ -110,16 +122,11 @@ fn walk(p: Point, bytes: &[u8], convex: bool) -> bool
 
 // What either test answers of (x, y): the refusal, or what the test says.
 pub fn ask(x: f32, y: f32, bytes: &[u8], convex: bool) -> Verdict
-    ensures { λ r. ⌜ r ≡ verdict (asking false (testOf convex) x y (floatsOf (now (bytes .entry)))) ⌝ }
+    ensures { λ r. ⌜ r ≡ verdict (asking (testOf convex) x y (floatsOf (now (bytes .entry)))) ⌝ }
 {
     let number = refusal(x, y, bytes);
     if number != 0 {
         return Verdict::Refused(number);
     }
-    let p = Point { x, y };
-    if walk(p, bytes, convex) {
-        Verdict::Inside
-    } else {
-        Verdict::Outside
-    }
+    walk(Point { x, y }, bytes, convex)
 }

@@ -5,18 +5,20 @@ use entries::MOST_POINTS;
 use entries::either;
 use grid::outline::outline_refusal;
 use grid::point::Point;
-use grid::point_in_triangle::corner_direction;
 ghost use mathlib.Core.Path.{_≡_};
-ghost use mathlib.Core.Bool.{true, false};
+ghost use mathlib.Core.Bool.{true, false, cond, _&&_};
 ghost use mathlib.Core.List.{[], _∷_};
+ghost use Prim.Native.Nat.{_<_};
+ghost use lib.ListN.{length};
 ghost use Rattle.algebra.specs.Sums.{xor};
+ghost use Rattle.rules.specs.Plane as Rules;
 ghost use Rattle.rules.specs.Grid.{pointsOf};
-ghost use Rattle.rules.specs.Crossing.{crossed};
 ghost use Rattle.rules.specs.Refusals.{_gives_, offGrid, firstRefusal, pointTestChecks};
+ghost use Rattle.rules.specs.Border.{outside, inside};
 ghost use Rattle.rules.specs.Entries.{asking, pointInPoly2d, pointInConvexPoly2d};
 ghost use Rattle.grid.specs.Points.{onGridPt, ptOf};
-ghost use Rattle.point_in_poly2d.specs.Edges.{passed, toldBy};
-ghost use Rattle.point_in_poly2d.specs.Verdicts.{verdict, testOf};
+ghost use Rattle.point_in_poly2d.specs.Edges.{Way, Passes, byHeights, toldBy};
+ghost use Rattle.point_in_poly2d.specs.Verdicts.{answered, verdict, testOf};
 
 // What a point test answers.
 pub enum Verdict {
@@ -24,6 +26,8 @@ pub enum Verdict {
     Refused(u32),
     Outside,
     Inside,
+    // On some edge, ends counted; the convex test does not say so.
+    Border,
 }
 
 // The refusal of the asked point alone, and 0 where it is on the grid.
@@ -50,23 +54,20 @@ fn refusal(x: f32, y: f32, coords: &[f32]) -> u32
     spot_refusal(x, y)
 }
 
-// Whether p crosses the edge a to b.
-fn crosses(p: Point, a: Point, b: Point) -> bool
-    requires { ⌜ onGridPt p ≡ true ⌝ }
-    requires { ⌜ onGridPt a ≡ true ⌝ }
-    requires { ⌜ onGridPt b ≡ true ⌝ }
-    ensures { λ r. ⌜ r ≡ crossed (ptOf p) (ptOf a) (ptOf b) ⌝ }
+// Whether the spot crosses an edge: by which of its ends are above the spot, and on which side of it the spot is.
+fn crosses(above: bool, next: bool, left: bool, right: bool) -> bool
+    ensures { λ r. ⌜ r ≡ byHeights above next left right ⌝ }
 {
-    if p.y < a.y {
-        if p.y < b.y {
-            return false;
-        }
-        return corner_direction(a, b, p).is_cw();
+    if above {
+        return if next { false } else { right };
     }
-    if p.y < b.y {
-        return corner_direction(a, b, p).is_ccw();
-    }
-    false
+    if next { left } else { false }
+}
+
+fn both(s: bool, t: bool) -> bool
+    ensures { λ r. ⌜ r ≡ (s && t) ⌝ }
+{
+    if s { t } else { false }
 }
 
 fn differ(s: bool, t: bool) -> bool
@@ -75,71 +76,95 @@ fn differ(s: bool, t: bool) -> bool
     if s { !t } else { t }
 }
 
-// What the edges that were passed have shown: whether an odd number of them is crossed, or, for the convex test, whether p is left of
-// some and right of some.
+// What the edges that were passed have shown: whether an odd number of them is crossed and whether the spot is on one, or, for the convex
+// test, whether it is left of some and right of some.
 struct Seen {
     odd: bool,
+    touched: bool,
     left: bool,
     right: bool,
 }
 
-// One edge more, from a to b.
-fn pass(s: Seen, p: Point, a: Point, b: Point, convex: bool) -> Seen
-    requires { ⌜ onGridPt p ≡ true ⌝ }
-    requires { ⌜ onGridPt a ≡ true ⌝ }
-    requires { ⌜ onGridPt b ≡ true ⌝ }
-    ensures { λ r. ⌜ r ≡ passed convex (ptOf p) s (ptOf a) (ptOf b) ⌝ }
+// One edge more, by the ways from the spot to its ends. Their cross product is the turn; where that is straight, their dot product is above zero
+// exactly if the spot is beyond the ends. No test waits for another, so that several edges can be looked at at once.
+fn pass(s: Seen, d: Point, e: Point, convex: bool) -> Seen
+    ensures { λ r. ⌜ Passes convex s d e r ⌝ }
 {
+    let turn = d.perp_dot(e);
+    let left = 0.0 < turn;
+    let right = turn < 0.0;
     if convex {
-        let side = corner_direction(a, b, p);
         return Seen {
             odd: s.odd,
-            left: either(s.left, side.is_ccw()),
-            right: either(s.right, side.is_cw()),
+            touched: s.touched,
+            left: either(s.left, left),
+            right: either(s.right, right),
         };
     }
+    let beyond = 0.0 < d.dot(e);
     Seen {
-        odd: differ(s.odd, crosses(p, a, b)),
+        odd: differ(s.odd, crosses(0.0 < d.y, 0.0 < e.y, left, right)),
+        touched: either(s.touched, both(turn == 0.0, !beyond)),
         left: s.left,
         right: s.right,
     }
 }
 
+fn inside_if(t: bool) -> Verdict
+    ensures { λ r. ⌜ r ≡ answered (cond t inside outside) ⌝ }
+{
+    if t { Verdict::Inside } else { Verdict::Outside }
+}
+
 // What all edges together say.
-fn told(s: Seen, convex: bool) -> bool
-    ensures { λ r. ⌜ r ≡ toldBy convex s ⌝ }
+fn told(s: Seen, convex: bool) -> Verdict
+    ensures { λ r. ⌜ r ≡ answered (toldBy convex s) ⌝ }
 {
     if convex {
         if s.left {
-            return !s.right;
+            return inside_if(!s.right);
         }
-        return true;
+        return Verdict::Inside;
     }
-    s.odd
+    if s.touched {
+        return Verdict::Border;
+    }
+    inside_if(s.odd)
 }
 
-// One of the two tests: of the crossings, or where `convex` of the sides of all edges. The edge from the last point to the first is passed
-// first, so that every edge is a turn of the loop.
-fn walk(p: Point, coords: &[f32], convex: bool) -> bool
+// The way from p to point number i.
+fn way_to(p: Point, coords: &[f32], i: usize) -> Point
     requires { ⌜ onGridPt p ≡ true ⌝ }
     requires { ⌜ offGrid (now coords) ≡ false ⌝ }
-    ensures { λ r. ⌜ r ≡ testOf convex (ptOf p) (pointsOf (now (coords .entry))) ⌝ }
+    requires { ⌜ i < length (pointsOf (now coords)) ⌝ }
+    ensures { λ d. ⌜ Way p (Rules.point (pointsOf (now (coords .entry))) i) d ⌝ }
+{
+    grid::point_at(coords, i).minus(p)
+}
+
+// One of the two tests: border or the crossings, or where `convex` the sides of all edges. The edge from the last point to the first is passed
+// first, so that every edge is a turn of the loop.
+fn walk(p: Point, coords: &[f32], convex: bool) -> Verdict
+    requires { ⌜ onGridPt p ≡ true ⌝ }
+    requires { ⌜ offGrid (now coords) ≡ false ⌝ }
+    ensures { λ r. ⌜ r ≡ answered (testOf convex (ptOf p) (pointsOf (now (coords .entry)))) ⌝ }
 {
     let n = coords.len() / 2;
     if n == 0 {
-        return false;
+        return Verdict::Outside;
     }
     let mut seen = Seen {
         odd: false,
+        touched: false,
         left: false,
         right: false,
     };
-    let mut a = grid::point_at(coords, n - 1);
+    let mut d = way_to(p, coords, n - 1);
     let mut i = 0;
     while i < n {
-        let b = grid::point_at(coords, i);
-        seen = pass(seen, p, a, b, convex);
-        a = b;
+        let e = way_to(p, coords, i);
+        seen = pass(seen, d, e, convex);
+        d = e;
         i += 1;
     }
     told(seen, convex)
@@ -147,21 +172,16 @@ fn walk(p: Point, coords: &[f32], convex: bool) -> bool
 
 // What either test answers of (x, y): the refusal, or what the test says.
 pub fn ask(x: f32, y: f32, coords: &[f32], convex: bool) -> Verdict
-    ensures { λ r. ⌜ r ≡ verdict (asking false (testOf convex) x y (now (coords .entry))) ⌝ }
+    ensures { λ r. ⌜ r ≡ verdict (asking (testOf convex) x y (now (coords .entry))) ⌝ }
 {
     let number = refusal(x, y, coords);
     if number != 0 {
         return Verdict::Refused(number);
     }
-    let p = Point { x, y };
-    if walk(p, coords, convex) {
-        Verdict::Inside
-    } else {
-        Verdict::Outside
-    }
+    walk(Point { x, y }, coords, convex)
 }
 
-// Whether (x, y) is inside the outline with these coordinates: it crosses an odd number of edges.
+// Where (x, y) is: on the border of the outline with these coordinates, or else inside it where an odd number of edges is crossed, or outside.
 pub fn point_in_poly2d(x: f32, y: f32, coords: &[f32]) -> Verdict
     ensures { λ r. ⌜ r ≡ verdict (pointInPoly2d x y (now (coords .entry))) ⌝ }
 {

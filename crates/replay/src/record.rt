@@ -1,5 +1,5 @@
 // A record: an input of an exported entry, and what must come back. It is seven numbers of four bytes, low byte first (the entry, 1 to 6;
-// how many bytes of four parts follow, at most 8192 each; number; count or answer), and then those parts:
+// how many bytes of four parts follow, at most 8192 each; number; count or answer, 0 outside, 1 inside, 2 border), and then those parts:
 //
 //   entry               1st part     2nd part             3rd part          4th part
 //   1 cutter            coordinates                       lent indices

@@ -15,6 +15,7 @@ use Rattle.rules.specs.Merge.{mayJoin, merge}
 use Rattle.rules.specs.Layout.{flatten, triples, over}
 use Rattle.rules.specs.Hull.{hull}
 use Rattle.rules.specs.Refusals.{Row, firstRefusal, cutterChecks, mergerChecks, pointTestChecks, hullChecks}
+use Rattle.rules.specs.Border.{Position, outside}
 use Rattle.rules.specs.Entries.{unless, Cutting, Merging, Asking, Hulling, trianglesOf, trianglesFor, cutter, merger, asking, huller, writtenTriangles, writtenPieces, writtenCorners}
 use Rattle.rules.specs.Lines.{Writing, writing}
 use Rattle.rules.proofs.Layouts.{take-over, triangles-length, triangles-back, pieces-back}
@@ -118,22 +119,22 @@ module _ (cs : List Float) (triangles out lens : List ℕ) where
 
 -- ---- the point tests
 
-module _ {A : Type 0} (no-answer : A) (test : Pt → List Pt → A) (x y : Float) (cs : List Float) where
-  pub asking-number : asking no-answer test x y cs .number ≡ firstRefusal (pointTestChecks x y cs)
+module _ (test : Pt → List Pt → Position) (x y : Float) (cs : List Float) where
+  pub asking-number : asking test x y cs .number ≡ firstRefusal (pointTestChecks x y cs)
   unfolding asking
-  asking-number = unless-number (λ (r : Asking A). r .number) _ _ (λ n. refl) refl (firstRefusal (pointTestChecks x y cs))
+  asking-number = unless-number (λ (r : Asking). r .number) _ _ (λ n. refl) refl (firstRefusal (pointTestChecks x y cs))
 
-  pub asking-answered : asking no-answer test x y cs .number ≡ 0 → asking no-answer test x y cs ≡ record { number = 0; answer = test (pointOf x y) (pointsOf cs) }
+  pub asking-answered : asking test x y cs .number ≡ 0 → asking test x y cs ≡ record { number = 0; answer = test (pointOf x y) (pointsOf cs) }
   unfolding asking
   asking-answered e = unless-answered _ _ (sym asking-number ∙ e)
 
-  pub asking-refused : asking no-answer test x y cs .number ≢ 0 → asking no-answer test x y cs ≡ record { number = asking no-answer test x y cs .number; answer = no-answer }
+  pub asking-refused : asking test x y cs .number ≢ 0 → asking test x y cs ≡ record { number = asking test x y cs .number; answer = outside }
   unfolding asking
-  asking-refused d = unless-refused _ _ (λ e. d (asking-number ∙ e)) ∙ ap (λ n. record { number = n; answer = no-answer }) (sym asking-number)
+  asking-refused d = unless-refused _ _ (λ e. d (asking-number ∙ e)) ∙ ap (λ n. record { number = n; answer = outside }) (sym asking-number)
 
-  -- a refused question is answered with "no"
-  pub asking-none : asking no-answer test x y cs .number ≢ 0 → asking no-answer test x y cs .answer ≡ no-answer
-  asking-none d = ap (λ (r : Asking A). r .answer) (asking-refused d)
+  -- a refused question is answered with outside
+  pub asking-none : asking test x y cs .number ≢ 0 → asking test x y cs .answer ≡ outside
+  asking-none d = ap (λ (r : Asking). r .answer) (asking-refused d)
 
 -- ---- the hull of a cloud
 

@@ -1,4 +1,4 @@
--- A cut, and the merge of what it has written: the merger accepts it, given room, and its pieces keep the outline's parity, area and size.
+-- A cut, and the merge of what it has written: the merger accepts it, given room, and its pieces keep the outline's parity, area, size and border.
 -- No piece turns right where the cut's last triangle, which is not tested, is not clockwise.
 use Prim.Native.Nat.{ℕ, _*_, _-_, _/_, _%_, _≤_, _<_}
 use mathlib.Core.Path.{_≡_, refl, sym, _∙_, ap, subst}
@@ -25,6 +25,7 @@ use Rattle.rules.specs.Layout.{flatten, triples}
 use Rattle.rules.specs.Refusals.{firstRefusal, outOfRange, listChecks, beforeTriangles, mergerChecks}
 use Rattle.rules.specs.Entries.{trianglesFor, cutter, merger, writtenTriangles, writtenPieces}
 use Rattle.rules.specs.Measure.{points, area2, NotRight, NotClockwise, NoneRight}
+use Rattle.rules.specs.Lines.{areasFor}
 use Rattle.rules.proofs.Ears.{cut-not-right}
 use Rattle.rules.proofs.Pieces.{merge-no-right}
 use Rattle.rules.proofs.Outline.{cut-count}
@@ -34,7 +35,8 @@ use Rattle.rules.proofs.Fronts.{seven-front, list-front, triangles-fron
 use Rattle.rules.proofs.Outlines.{Outlined, outline-none}
 use Rattle.rules.proofs.Answers.{cutter-number, cutter-indices, merger-number, merger-written}
 use Rattle.rules.proofs.Accepted.{Accepted, ready}
-use Rattle.rules.proofs.Plans.{triangles-size, triangles-plan}
+use Rattle.rules.proofs.Borders.{Bordered}
+use Rattle.rules.proofs.Plans.{triangles-size, plan-border, triangles-plan, areas-plan}
 use Rattle.rules.proofs.Results.{triangles-are, not-right, cut-result, outline-above, written-inside, written-area, merged-inside, merged-area, merged-size}
 
 -- ---- the merger's rows on triangles of an outline
@@ -77,6 +79,15 @@ none-right ps (c ∷ ts) e h =
     let k : NotClockwise ps (ringOf (lastOf c ts)) = subst (NotClockwise ps) (last-ring c ts) h in
     cut-not-right ps (length ps - 3) (countFrom 0 (length ps)) c ts e (each-head (not-right ps (lastOf c ts ∷ []) (k & end)))
 
+-- ---- the border
+
+-- what the triangles that were written say of the outline's border
+pub written-border : (cs : List Float) (out : List ℕ) → cutter cs out .number ≡ 0 → (p : Pt) → Bordered (pointsOf cs) (map (points (pointsOf cs)) (writtenTriangles (cutter cs out))) p
+written-border cs out ok p =
+    let r = cut-result cs out ok in
+    let a = r .outline in
+    rw (r .written, ← triangles-are a) (plan-border (pointsOf cs) (trianglesFor (pointsOf cs)) (a .three) (triangles-plan (pointsOf cs) (length out) a) p)
+
 -- ---- both
 
 module _ (cs : List Float) (cut-out out lens : List ℕ) (cut-ok : cutter cs cut-out .number ≡ 0)
@@ -109,7 +120,7 @@ module _ (cs : List Float) (cut-out out lens : List ℕ) (cut-ok : cutter cs cut
       let rows = triangles-pass cs (length cut-out) (length out) (length lens) outline (cut-result cs cut-out cut-ok .outline) room room-for-lengths in
       merger-number cs given out lens ∙ subst (λ (l : List ℕ). firstRefusal (mergerChecks cs l (length out) (length lens)) ≡ 0) (sym given-is) rows
 
-  -- at every grid point the outline's answer is the parity of the merged areas'
+  -- at every grid point the outline's crossing parity is that of the merged areas'
   pub both-inside : (p : Pt) → oddCrossings p ps ≡ odd (λ t. oddCrossings p (points ps t)) pieces
   both-inside p = written-inside cs cut-out cut-ok p ∙ sym (merged-inside cs given out lens merger-takes p)
 
@@ -119,6 +130,14 @@ module _ (cs : List Float) (cut-out out lens : List ℕ) (cut-ok : cutter cs cut
   -- to more than zero
   pub both-above : pos 0 <ℤ total integers (λ t. area2 (points ps t)) pieces
   both-above = subst (λ (z : ℤ). pos 0 <ℤ z) both-area (outline-above cs cut-out cut-ok)
+
+  -- what the merged areas say of the outline's border
+  pub both-border : (p : Pt) → Bordered ps (map (points ps) pieces) p
+  unfolding areasFor
+  both-border p =
+      let a = cut-result cs cut-out cut-ok .outline in
+      let triangles : triples given ≡ trianglesFor ps = ap triples (given-is ∙ ap flatten (triangles-are a)) ∙ triangles-back ts ∙ sym (triangles-are a) in
+      rw (merger-written cs given out lens merger-takes, triangles) (plan-border ps (areasFor ps) (a .three) (areas-plan ps (length cut-out) a) p)
 
   -- the sum of (corners - 2) over the merged areas is the outline's
   pub both-size : length ps - 2 ≡ total naturals (λ t. length t - 2) pieces

@@ -5,16 +5,11 @@ use mathlib.Core.List.{[], _∷_}
 use Prim.Native.Nat.{zero}
 use lib.IntN.{ℤ, pos, negℤ}
 use lib.Signed.{ltZ}
-use Rattle.algebra.specs.Reify.{reify}
 use Rattle.algebra.proofs.Equal.{impossible}
-use Rattle.algebra.proofs.Solve.{ring}
 use Rattle.algebra.proofs.Order.{lin, neg-zero}
 use Rattle.rules.specs.Plane.{Pt, turn}
 use Rattle.rules.specs.Crossing.{perp, insideConvex}
-use Rattle.rules.proofs.Turns.{coordinates, below-neg, above-neg, perp-turn, perp-back}
-
-perp-none : (p a : Pt) → perp p a a ≡ pos 0
-perp-none p a = ring (coordinates (p ∷ a ∷ [])) (search reify depth 12) (search reify depth 12) refl
+use Rattle.rules.proofs.Turns.{below-neg, above-neg, perp-none, perp-turn, perp-back}
 
 pub convex-none : (p : Pt) → insideConvex p [] ≡ false
 unfolding insideConvex

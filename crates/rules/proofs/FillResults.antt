@@ -32,7 +32,8 @@ use Rattle.rules.proofs.LineAnswers.{answer-of, eleven-of}
 use Rattle.rules.proofs.FillRows.{even, sound, corners-front, filled}
 use Rattle.rules.proofs.Outline.{cut-count}
 use Rattle.rules.proofs.Results.{triangles-are}
-use Rattle.rules.proofs.Plans.{Plan, Plans, triangles-plan, areas-plan}
+use Rattle.rules.proofs.Plans.{Plan, Plans, triangles-plan, areas-plan, plan-border}
+use Rattle.rules.proofs.Borders.{Bordered}
 
 -- ---- the ways to fill a line
 
@@ -142,21 +143,23 @@ module _ (plan : List Pt → List (List ℕ)) (line out : List ℕ) (r : Writing
 -- ---- demand 3 over the text
 
 -- rings that describe the area of an outline: each of three corners or more, which beyond two add up to the outline's; at every grid point
--- the outline's answer is the parity of the rings'; and doubled areas add up, to more than zero
+-- the outline's crossing parity is that of the rings'; doubled areas add up, to more than zero; and the rings tell the outline's border
 pub record Describe (rings : List (List Pt)) (corners : List Pt) : Type 0 where
   pub three : Each (λ ring. 3 ≤ length ring) rings
   pub size : total naturals (λ ring. length ring - 2) rings ≡ length corners - 2
   pub inside : (p : Pt) → oddCrossings p corners ≡ odd (oddCrossings p) rings
   pub area : area2 corners ≡ total integers area2 rings
   pub above : pos 0 <ℤ total integers area2 rings
+  pub border : (p : Pt) → Bordered corners rings p
 
-planned-describes : {ps : List Pt} {rings : List (List ℕ)} → Plan ps rings → Describe (map (points ps) rings) ps
-planned-describes {ps} {rings} plan = record {
+planned-describes : {ps : List Pt} {rings : List (List ℕ)} → 3 ≤ length ps → Plan ps rings → Describe (map (points ps) rings) ps
+planned-describes {ps} {rings} three plan = record {
   three = each-map (points ps) (each-imp (λ t h. rw (length-map t (point ps)) h) (plan .three));
   size = total-map naturals (λ ring. length ring - 2) (points ps) rings ∙ total-same naturals (λ t. length (points ps t) - 2) (λ t. length t - 2) (λ t. ap (λ (n : ℕ). n - 2) (length-map t (point ps))) rings ∙ plan .size;
   inside = λ p. plan .inside p ∙ sym (total-map parities (oddCrossings p) (points ps) rings);
   area = plan .area ∙ sym (total-map integers area2 (points ps) rings);
   above = subst (λ (z : ℤ). pos 0 <ℤ z) (sym (total-map integers area2 (points ps) rings)) (plan .above);
+  border = plan-border ps rings three plan;
 }
 
 -- whatever rings the written text is read as, they describe the outline that was read
@@ -169,7 +172,7 @@ fill-describes : (plan : List Pt → List (List ℕ)) → Plans plan → Describ
 fill-describes plan plans line out r f corners form ok rings e =
     let a = filled corners (length out) (sym (fill-first plan line out r f corners form) ∙ ok) in
     let same = fill-rings plan line out r f corners form ok rings e in
-    subst (λ (l : List (List Pt)). Describe l corners) (sym same) (planned-describes (plans corners _ (a .outline)))
+    subst (λ (l : List (List Pt)). Describe l corners) (sym same) (planned-describes (a .outline .three) (plans corners _ (a .outline)))
 
 pub areas-described : Described areasFor
 areas-described = fill-describes areasFor areas-plan

@@ -7,6 +7,7 @@ pub mod Blocks
 pub mod GridSizes
 pub mod Turns
 pub mod Convex
+pub mod Borders
 pub mod Squares
 pub mod Scale
 pub mod Floats
@@ -30,6 +31,7 @@ pub mod QueueLinks
 pub mod QueueArrays
 pub mod QueueWindow
 pub mod QueueTurns
+pub mod KeptEdges
 pub mod Measures
 pub mod Outline
 pub mod Layouts

@@ -8,9 +8,9 @@ use lib.IntN.{ℤ}
 use lib.ListN.{length}
 use Rattle.algebra.specs.Lists.{Distinct}
 use Rattle.algebra.specs.Sums.{Sums, total, integers, parities}
-use Rattle.algebra.proofs.Sums.{total-same, xor-self}
+use Rattle.algebra.proofs.Sums.{total-map, total-same, xor-self}
 use Rattle.rules.specs.Plane.{Pt, cross, point}
-use Rattle.algebra.specs.Rings.{Corner, steps, edges, ringOf, around}
+use Rattle.algebra.specs.Rings.{Edge, Corner, steps, edges, ringOf, around}
 use Rattle.rules.specs.Crossing.{crossed, odd, oddCrossings}
 use Rattle.rules.specs.Measure.{points, area2}
 use Rattle.rules.specs.Cut.{done, cutRing}
@@ -33,21 +33,29 @@ crossing-parity p = record { sums = parities; weight = crossed p; back = λ a b.
 abbrev pub doubled-area : Measure ℤ
 doubled-area = record { sums = integers; weight = cross; back = cross-back }
 
+-- ---- the edges of a ring of corner numbers
+
+abbrev pub edge-points : List Pt → Edge ℕ → Edge Pt
+edge-points ps e = record { from = point ps (e .from); to = point ps (e .to) }
+
+module _ (ps : List Pt) where
+  steps-points : (a : ℕ) (l : List ℕ) (b : ℕ) → steps (point ps a) (points ps l ++ point ps b ∷ []) ≡ map (edge-points ps) (steps a (l ++ b ∷ []))
+  steps-points a [] b = refl
+  steps-points a (x ∷ l) b = ap (λ (es : List (Edge Pt)). edge-points ps (record { from = a; to = x }) ∷ es) (steps-points x l b)
+
+  pub edges-points : (ring : List ℕ) → edges (points ps ring) ≡ map (edge-points ps) (edges ring)
+  edges-points [] = refl
+  edges-points (a ∷ l) = steps-points a l a
+
 module _ {G : Type 0} (M : Measure G) (ps : List Pt) where
   open Measure M using (sums, weight, back)
-  open Sums sums using (_⊕_)
 
   -- the same on corner numbers
   abbrev by-number : ℕ → ℕ → G
   by-number a b = weight (point ps a) (point ps b)
 
-  steps-points : (a : ℕ) (l : List ℕ) (b : ℕ) → total sums (λ e. weight (e .from) (e .to)) (steps (point ps a) (points ps l ++ point ps b ∷ [])) ≡ total sums (λ e. by-number (e .from) (e .to)) (steps a (l ++ b ∷ []))
-  steps-points a [] b = refl
-  steps-points a (x ∷ l) b = ap (λ (z : G). by-number a x ⊕ z) (steps-points x l b)
-
   measure-points : (ring : List ℕ) → measure M (points ps ring) ≡ around sums by-number ring
-  measure-points [] = refl
-  measure-points (a ∷ l) = steps-points a l a
+  measure-points ring = ap (total sums (λ e. weight (e .from) (e .to))) (edges-points ps ring) ∙ total-map sums (λ e. weight (e .from) (e .to)) (edge-points ps) (edges ring)
 
   -- the total over pieces
   abbrev pub measures : List (List ℕ) → G

@@ -8,13 +8,13 @@ use lib.ListN.{length, drop, drop-of-length-le}
 use lib.Seq.{drop-cons}
 use Rattle.algebra.specs.Lists.{Each, countFrom}
 use Rattle.algebra.proofs.Counting.{count-below, count-distinct, count-length}
-use Rattle.algebra.specs.Sums.{total, integers}
+use Rattle.algebra.specs.Sums.{Sums, total, integers}
 use Rattle.rules.specs.Plane.{Pt, point}
-use Rattle.algebra.specs.Rings.{Corner, ringOf}
+use Rattle.algebra.specs.Rings.{Corner, ringOf, around}
 use Rattle.rules.specs.Crossing.{odd, oddCrossings}
 use Rattle.rules.specs.Measure.{points, area2, Apart}
 use Rattle.rules.specs.Cut.{done, cutRing, cut}
-use Rattle.rules.proofs.Cuts.{cuts, cuts-each, cuts-length}
+use Rattle.rules.proofs.Cuts.{cuts, cuts-each, cuts-length, triangulation}
 use Rattle.rules.proofs.Neighbours.{Met, met-apart}
 use Rattle.rules.proofs.Measures.{Measure, measure, measures, cut-keeps, crossing-parity, doubled-area}
 
@@ -39,6 +39,10 @@ module _ (ps : List Pt) (ts : List (Corner ℕ)) (three : 3 ≤ length ps) (cuts
   ring-cut : cutRing (length ps - 3) ps (countFrom 0 (length ps)) ≡ done ts
   unfolding cut
   ring-cut = cuts-to
+
+  -- every sum along edges that cancels with the reverse edge's is the sum of the triangles'
+  pub cut-sum : {G : Type 0} (S : Sums G) (w : ℕ → ℕ → G) → ((a b : ℕ) → S ._⊕_ (w a b) (w b a) ≡ S .nil) → around S w (countFrom 0 (length ps)) ≡ total S (around S w) (map ringOf ts)
+  cut-sum = triangulation (length ps - 3) ps (countFrom 0 (length ps)) ts ring-length (count-distinct 0 (length ps)) ring-cut .sum
 
   pub cut-count : length ts ≡ length ps - 2
   cut-count = omega (arith, cuts-length (cuts (length ps - 3) ps (countFrom 0 (length ps)) ts ring-cut))

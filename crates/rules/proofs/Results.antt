@@ -1,5 +1,5 @@
 -- Demand 3 over what the entries give back: the written triangles and pieces, read from lent memory. The crossing parity is what the
--- outline test answers.
+-- outline test goes by off the border.
 use Prim.Native.Nat.{ℕ, _-_, _≤_, _<_}
 use mathlib.Core.Path.{_≡_, sym, _∙_, ap, subst}
 use mathlib.Core.List.{List, [], _∷_, map}
@@ -60,7 +60,7 @@ module _ (cs : List Float) (out : List ℕ) (ok : cutter cs out .number ≡ 0) w
   pub written-indices : Each (Each (λ i. i < length (pointsOf cs))) (writtenTriangles (cutter cs out))
   written-indices = let r = cut-result cs out ok in rw (r .written) (each-map ringOf (cut-indices (pointsOf cs) (r .outline .triangles) (r .outline .three) (r .outline .is-cut)))
 
-  -- at every grid point the outline's answer is the parity of the triangles'
+  -- at every grid point the outline's crossing parity is that of the triangles'
   pub written-inside : (p : Pt) → oddCrossings p (pointsOf cs) ≡ odd (λ t. oddCrossings p (points (pointsOf cs) t)) (writtenTriangles (cutter cs out))
   written-inside p = let r = cut-result cs out ok in rw (r .written) (cut-inside (pointsOf cs) (r .outline .triangles) (r .outline .three) (r .outline .is-cut) p)
 

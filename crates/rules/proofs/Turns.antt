@@ -29,6 +29,9 @@ turn-edges a b c = ring (coordinates (a ∷ b ∷ c ∷ [])) (search reify depth
 pub turn-none : (a b : Pt) → turn a b a ≡ pos 0
 turn-none a b = ring (coordinates (a ∷ b ∷ [])) (search reify depth 12) (search reify depth 12) refl
 
+pub turn-same : (a b : Pt) → turn a a b ≡ pos 0
+turn-same a b = ring (coordinates (a ∷ b ∷ [])) (search reify depth 12) (search reify depth 12) refl
+
 pub turn-end : (a b : Pt) → turn a b b ≡ pos 0
 turn-end a b = ring (coordinates (a ∷ b ∷ [])) (search reify depth 12) (search reify depth 12) refl
 
@@ -48,6 +51,9 @@ above-neg z = ltZ-eq {a = negℤ z} {b = pos 0} {c = pos 0} {d = z} (λ h. omega
 
 pub perp-turn : (p a b : Pt) → perp p a b ≡ negℤ (turn a b p)
 perp-turn p a b = ring (coordinates (a ∷ b ∷ p ∷ [])) (search reify depth 12) (search reify depth 12) refl
+
+pub perp-none : (p a : Pt) → perp p a a ≡ pos 0
+perp-none p a = ring (coordinates (p ∷ a ∷ [])) (search reify depth 12) (search reify depth 12) refl
 
 pub perp-back : (p a b : Pt) → perp p b a ≡ negℤ (perp p a b)
 perp-back p a b = ring (coordinates (a ∷ b ∷ p ∷ [])) (search reify depth 12) (search reify depth 12) refl

@@ -9,17 +9,20 @@ use lib.IntN.{ℤ, pos, negsuc, negℤ}
 use lib.ListN.{replicate}
 use lib.Ieee as Ieee
 use lib.Ieee.{Float, nan, inf, fin, binary32}
-use Rattle.rules.specs.Grid.{pointsOf}
+use Rattle.rules.specs.Grid.{pointOf, pointsOf}
+use Rattle.rules.specs.Crossing.{oddCrossings}
 use Rattle.rules.specs.Measure.{area2}
 use Rattle.rules.specs.Root.{root}
+use Rattle.rules.specs.Border.{Position, outside, inside, border}
 use Rattle.rules.specs.Entries.{Cutting, Merging, Asking, Hulling, cutter, merger, pointInPoly2d, pointInConvexPoly2d, huller}
 
 -- what is lent and everything that comes back; `asking-both-at` has the outline test's answer, then the convex test's
 pub data Case : Type 0 where
   cutting : List Float → List ℕ → Cutting → Case
   merging : List Float → List ℕ → List ℕ → List ℕ → Merging → Case
-  asking-at : Float → Float → List Float → Asking Bool → Case
-  asking-both-at : Float → Float → List Float → Asking Bool → Asking Bool → Case
+  asking-at : Float → Float → List Float → Asking → Case
+  asking-both-at : Float → Float → List Float → Asking → Asking → Case
+  crossing : Float → Float → List Float → Bool → Case
   hulling : List Float → List ℕ → Hulling → Case
   rooting : ℕ → Float → Case
   measuring : List Float → ℤ → Case
@@ -28,7 +31,8 @@ abbrev pub Holds : Case → Type 0
 Holds (cutting cs indices r) = cutter cs indices ≡ r
 Holds (merging cs triangles indices lengths r) = merger cs triangles indices lengths ≡ r
 Holds (asking-at x y cs r) = pointInPoly2d x y cs ≡ r
-Holds (asking-both-at x y cs r s) = _≡_ {A = Asking Bool × Asking Bool} (pointInPoly2d x y cs, pointInConvexPoly2d x y cs) (r, s)
+Holds (asking-both-at x y cs r s) = _≡_ {A = Asking × Asking} (pointInPoly2d x y cs, pointInConvexPoly2d x y cs) (r, s)
+Holds (crossing x y cs r) = oddCrossings (pointOf x y) (pointsOf cs) ≡ r
 Holds (hulling cs indices r) = huller cs indices ≡ r
 Holds (rooting m r) = root m ≡ r
 Holds (measuring cs r) = area2 (pointsOf cs) ≡ r
@@ -62,6 +66,10 @@ Q = whole (0 ∷ 0 ∷ 2 ∷ 1 ∷ 4 ∷ 0 ∷ 2 ∷ 4 ∷ [])
 -- Q with corner 1 on the line from corner 0 to corner 2
 abbrev Q-flat : List Float
 Q-flat = whole (0 ∷ 0 ∷ 2 ∷ 0 ∷ 4 ∷ 0 ∷ 2 ∷ 4 ∷ [])
+
+-- P with a slot from (4, 2) to (2, 2), which is drawn in and out
+abbrev slotted : List Float
+slotted = whole (0 ∷ 0 ∷ 4 ∷ 0 ∷ 4 ∷ 2 ∷ 2 ∷ 2 ∷ 4 ∷ 2 ∷ 4 ∷ 4 ∷ 0 ∷ 4 ∷ [])
 
 abbrev T : List Float
 T = whole (0 ∷ 0 ∷ 4 ∷ 0 ∷ 0 ∷ 4 ∷ [])
@@ -113,14 +121,14 @@ abbrev merge-refused : List Float → List ℕ → ℕ → ℕ → ℕ → Case
 merge-refused cs triangles room roomForLengths n =
     merging cs triangles (nines room) (nines roomForLengths) (record { number = n; count = 0; indices = nines room; lengths = nines roomForLengths })
 
-abbrev answered : Bool → Asking Bool
-answered b = record { number = 0; answer = b }
+abbrev answered : Position → Asking
+answered a = record { number = 0; answer = a }
 
-abbrev both-answered : Float → Float → List Float → Bool → Bool → Case
+abbrev both-answered : Float → Float → List Float → Position → Position → Case
 both-answered x y cs outline convex = asking-both-at x y cs (answered outline) (answered convex)
 
 abbrev both-refused : Float → Float → List Float → ℕ → Case
-both-refused x y cs n = asking-both-at x y cs (record { number = n; answer = false }) (record { number = n; answer = false })
+both-refused x y cs n = asking-both-at x y cs (record { number = n; answer = outside }) (record { number = n; answer = outside })
 
 abbrev hull-is : List Float → ℕ → ℕ → List ℕ → Case
 hull-is cs room count indices = hulling cs (nines room) (record { number = 0; count = count; indices = indices })
@@ -136,12 +144,17 @@ table =
     ∷ merging Q (1 ∷ 2 ∷ 3 ∷ 3 ∷ 0 ∷ 1 ∷ []) (nines 6) (nines 2) (record { number = 0; count = 2; indices = 1 ∷ 2 ∷ 3 ∷ 3 ∷ 0 ∷ 1 ∷ []; lengths = 3 ∷ 3 ∷ [] })  -- K4
     ∷ cutting T (nines 4) (record { number = 0; count = 1; indices = 2 ∷ 0 ∷ 1 ∷ 9 ∷ [] })  -- K5
     ∷ cutting P-backwards (nines 6) (record { number = 13; count = 0; indices = nines 6 })  -- K6, by request M-105
-    ∷ asking-at (f 0) (f 2) P (answered true)  -- K7
-    ∷ asking-at (f 4) (f 2) P (answered false)  -- K8
-    ∷ asking-at (f 2) (f 0) P (answered true)  -- K9
-    ∷ asking-at (f 2) (f 4) P (answered false)  -- K10
+    ∷ asking-at (f 0) (f 2) P (answered border)  -- K7, and the next three, by request M-106
+    ∷ asking-at (f 4) (f 2) P (answered border)  -- K8
+    ∷ asking-at (f 2) (f 0) P (answered border)  -- K9
+    ∷ asking-at (f 2) (f 4) P (answered border)  -- K10
     ∷ cutting P (nines 5) (record { number = 6; count = 0; indices = nines 5 })  -- K11
     ∷ rooting 2 (Ieee.round binary32 false 11863283 (2 ^ 23))  -- K12
+    -- the crossing parity of K7 to K10 is as document 01 has it
+    ∷ crossing (f 0) (f 2) P true
+    ∷ crossing (f 4) (f 2) P false
+    ∷ crossing (f 2) (f 0) P true
+    ∷ crossing (f 2) (f 4) P false
     -- the doubled areas of Q, of its triangles, and of P backwards
     ∷ measuring Q (pos 12)
     ∷ measuring (whole (2 ∷ 1 ∷ 4 ∷ 0 ∷ 2 ∷ 4 ∷ [])) (pos 6)
@@ -265,41 +278,53 @@ table =
     ∷ merge-refused P (0 ∷ 1 ∷ 4 ∷ []) 2 0 9
     ∷ merge-refused P (2 ∷ 3 ∷ 0 ∷ 2 ∷ 0 ∷ 1 ∷ []) 5 2 6
     ∷ merge-refused P (2 ∷ 3 ∷ 0 ∷ 2 ∷ 0 ∷ 1 ∷ []) 6 1 6
-    -- both point tests, of which the first answer is the outline test: inside, outside, at corners and on the border
-    ∷ both-answered (f 2) (f 2) P true true
-    ∷ both-answered (f 5) (f 2) P false false
-    ∷ both-answered (f 2) (f 5) P false false
-    ∷ both-answered (f- 1) (f 2) P false false
-    ∷ both-answered (f 2) (f- 1) P false false
-    ∷ both-answered (f 0) (f 0) P true true
-    ∷ both-answered (f 4) (f 4) P false true
-    ∷ both-answered (f 0) (f 4) P false true
-    ∷ both-answered (f 4) (f 0) P false true
-    ∷ both-answered (f 0) (f 2) P true true
-    ∷ both-answered (f 4) (f 2) P false true
-    ∷ both-answered (f 2) (f 0) P true true
-    ∷ both-answered (f 2) (f 4) P false true
+    -- both point tests, of which the first answer is the outline test's: inside and outside, as request M-106 has them, at corners and on the border
+    ∷ both-answered (f 2) (f 2) P inside inside
+    ∷ both-answered (f 5) (f 2) P outside outside
+    ∷ both-answered (f 2) (f 5) P outside outside
+    ∷ both-answered (f- 1) (f 2) P outside outside
+    ∷ both-answered (f 2) (f- 1) P outside outside
+    ∷ both-answered (f 0) (f 0) P border inside
+    ∷ both-answered (f 4) (f 4) P border inside
+    ∷ both-answered (f 0) (f 4) P border inside
+    ∷ both-answered (f 4) (f 0) P border inside
+    ∷ both-answered (f 0) (f 2) P border inside
+    ∷ both-answered (f 4) (f 2) P border inside
+    ∷ both-answered (f 2) (f 0) P border inside
+    ∷ both-answered (f 2) (f 4) P border inside
+    -- request M-106, the border, ends counted: on the line of a slot, at its end, and on its prolongation, which is level with a corner
+    ∷ asking-at (f 3) (f 2) slotted (answered border)
+    ∷ asking-at (f 2) (f 2) slotted (answered border)
+    ∷ asking-at (f 1) (f 2) slotted (answered inside)
+    -- on the prolongation of an edge to either side, level with a corner and in the box of no edge; level with two corners, within and beyond them
+    ∷ asking-at (f 6) (f 0) P (answered outside)
+    ∷ asking-at (f 4) (f 6) P (answered outside)
+    ∷ asking-at (f 1) (f 2) (whole (2 ∷ 0 ∷ 4 ∷ 2 ∷ 2 ∷ 4 ∷ 0 ∷ 2 ∷ [])) (answered inside)
+    ∷ asking-at (f 5) (f 2) (whole (2 ∷ 0 ∷ 4 ∷ 2 ∷ 2 ∷ 4 ∷ 0 ∷ 2 ∷ [])) (answered outside)
     -- backwards; in the hollow of Q and around it; directly beside an outline
-    ∷ both-answered (f 2) (f 2) P-backwards true true
-    ∷ both-answered (f 0) (f 2) P-backwards true true
-    ∷ both-answered (f 4) (f 2) P-backwards false true
-    ∷ both-answered (f 2) (f 0) Q false false
-    ∷ both-answered (f 2) (f 1) Q true true
-    ∷ both-answered (f 2) (f 2) Q true true
-    ∷ both-answered (f 1) (f 1) Q true false
-    ∷ both-answered (f 3) (f 1) Q true false
-    ∷ both-answered (f- 1) (f 0) (whole (0 ∷ 0 ∷ 1 ∷ 0 ∷ 0 ∷ 1 ∷ [])) false false
-    -- no corners: no. One corner: the convex test says yes to every point. Two: to those on their line
-    ∷ both-answered (f 0) (f 0) [] false false
-    ∷ both-answered (f 3) (f 2) (whole (0 ∷ 0 ∷ [])) false true
-    ∷ both-answered (f 0) (f 0) (whole (0 ∷ 0 ∷ [])) false true
-    ∷ both-answered (f 4) (f 2) (whole (0 ∷ 0 ∷ 2 ∷ 1 ∷ [])) false true
-    ∷ both-answered (f 4) (f 3) (whole (0 ∷ 0 ∷ 2 ∷ 1 ∷ [])) false false
+    ∷ both-answered (f 2) (f 2) P-backwards inside inside
+    ∷ both-answered (f 0) (f 2) P-backwards border inside
+    ∷ both-answered (f 4) (f 2) P-backwards border inside
+    ∷ both-answered (f 2) (f 0) Q outside outside
+    ∷ both-answered (f 2) (f 1) Q border inside
+    ∷ both-answered (f 2) (f 2) Q inside inside
+    ∷ both-answered (f 1) (f 1) Q inside outside
+    ∷ both-answered (f 3) (f 1) Q inside outside
+    ∷ both-answered (f- 1) (f 0) (whole (0 ∷ 0 ∷ 1 ∷ 0 ∷ 0 ∷ 1 ∷ [])) outside outside
+    -- no corners: outside. One corner: the border is that corner, and the convex test says inside of every point. Two: the border is the segment
+    -- between them, and the convex test says inside of those on their line
+    ∷ both-answered (f 0) (f 0) [] outside outside
+    ∷ both-answered (f 3) (f 2) (whole (0 ∷ 0 ∷ [])) outside inside
+    ∷ both-answered (f 0) (f 0) (whole (0 ∷ 0 ∷ [])) border inside
+    ∷ both-answered (f 4) (f 2) (whole (0 ∷ 0 ∷ 2 ∷ 1 ∷ [])) outside inside
+    ∷ both-answered (f 4) (f 3) (whole (0 ∷ 0 ∷ 2 ∷ 1 ∷ [])) outside outside
+    ∷ both-answered (f 2) (f 1) (whole (0 ∷ 0 ∷ 4 ∷ 2 ∷ [])) border inside
+    ∷ both-answered (f 2) (f 2) (whole (0 ∷ 0 ∷ 4 ∷ 2 ∷ [])) outside outside
     -- at the edge of the grid, and at minus zero
-    ∷ both-answered (f 1024) (f- 1024) widest false true
-    ∷ both-answered minus-zero (f 2) P true true
-    ∷ both-answered (f 2) minus-zero P true true
-    -- a refused question is answered with no: for x, for y, for a coordinate
+    ∷ both-answered (f 1024) (f- 1024) widest border inside
+    ∷ both-answered minus-zero (f 2) P border inside
+    ∷ both-answered (f 2) minus-zero P border inside
+    -- a refused question is answered with outside: for x, for y, for a coordinate
     ∷ both-refused (f 1025) (f 2) P 4
     ∷ both-refused (f- 1025) (f 2) P 4
     ∷ both-refused half (f 2) P 4
@@ -318,7 +343,7 @@ table =
     ∷ both-refused (f 2) (f 2) (P ++ (f 0 ∷ [])) 1
     ∷ both-refused (f 2) (f 2) (replicate 1027 (f 0)) 1
     ∷ both-refused nan (f 2) (P ++ (f 0 ∷ [])) 1
-    ∷ both-answered (f 0) (f 0) (replicate 1024 (f 0)) false true
+    ∷ both-answered (f 0) (f 0) (replicate 1024 (f 0)) border inside
     ∷ both-refused (f 0) (f 0) (replicate 1026 (f 0)) 3
     ∷ both-refused nan (f 0) (replicate 1026 (f 0)) 3
     ∷ both-refused (f 0) (f 0) (replicate 1026 nan) 3

@@ -31,10 +31,6 @@ odd f l = total parities f l
 unfoldable pub oddCrossings : Pt → List Pt → Bool
 oddCrossings p ring = around parities (crossed p) ring
 
--- what the outline test answers
-abbrev pub inside : Pt → List Pt → Bool
-inside p ring = oddCrossings p ring
-
 -- (p - a) x (b - a) isn't positive at one edge and negative at another; no corners: false
 unfoldable pub insideConvex : Pt → List Pt → Bool
 insideConvex p [] = false

@@ -1,14 +1,13 @@
 -- For each entry one function from what is lent to everything that comes back: the number, the count or answer, and every lent element afterwards.
--- A refusal reports a count of zero, or "no", and changes no lent element.
+-- A refusal reports a count of zero, or outside, and changes no lent element.
 use Prim.Native.Nat.{ℕ, zero, suc, _*_}
-use mathlib.Core.Bool.{Bool, false}
 use mathlib.Core.List.{List, [], map}
 use lib.ListN.{length, take}
 use lib.Ieee.{Float}
 use Rattle.algebra.specs.Rings.{Corner, ringOf}
 use Rattle.rules.specs.Plane.{Pt}
 use Rattle.rules.specs.Grid.{pointOf, pointsOf}
-use Rattle.rules.specs.Crossing.{inside, insideConvex}
+use Rattle.rules.specs.Border.{Position, outside, position, convexPosition}
 use Rattle.rules.specs.Cut.{Cut, stuck, done, cut}
 use Rattle.rules.specs.Merge.{mayJoin, merge}
 use Rattle.rules.specs.Layout.{flatten, split, triples, over}
@@ -72,23 +71,22 @@ writtenPieces r = split (take (r .count) (r .lengths)) (r .indices)
 
 -- ---- the point tests
 
-pub record Asking (A : Type 0) : Type 0 where
+pub record Asking : Type 0 where
   pub number : ℕ
-  pub answer : A
+  pub answer : Position
 
--- a refused question is answered with `refused`
-unfoldable pub asking : {A : Type 0} → A → (Pt → List Pt → A) → Float → Float → List Float → Asking A
+unfoldable pub asking : (Pt → List Pt → Position) → Float → Float → List Float → Asking
 unfolding firstRefusal pointTestChecks
-asking refused test x y cs =
+asking test x y cs =
     unless (firstRefusal (pointTestChecks x y cs))
-    (λ n. record { number = n; answer = refused })
+    (λ n. record { number = n; answer = outside })
     (record { number = 0; answer = test (pointOf x y) (pointsOf cs) })
 
-abbrev pub pointInPoly2d : Float → Float → List Float → Asking Bool
-pointInPoly2d = asking false inside
+abbrev pub pointInPoly2d : Float → Float → List Float → Asking
+pointInPoly2d = asking position
 
-abbrev pub pointInConvexPoly2d : Float → Float → List Float → Asking Bool
-pointInConvexPoly2d = asking false insideConvex
+abbrev pub pointInConvexPoly2d : Float → Float → List Float → Asking
+pointInConvexPoly2d = asking convexPosition
 
 -- ---- the hull of a cloud
 

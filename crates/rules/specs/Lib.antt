@@ -2,6 +2,7 @@ pub mod Limits
 pub mod Plane
 pub mod Grid
 pub mod Crossing
+pub mod Border
 pub mod Root
 pub mod Ear
 pub mod Cut

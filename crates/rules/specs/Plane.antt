@@ -33,6 +33,9 @@ left a b c = ltZ (pos 0) (turn a b c)
 abbrev pub right : Pt → Pt → Pt → Bool
 right a b c = ltZ (turn a b c) (pos 0)
 
+abbrev pub straight : Pt → Pt → Pt → Bool
+straight a b c = not (left a b c || right a b c)
+
 -- p is in the triangle unless its three turns with the sides contain both a left and a right
 abbrev pub inTriangle : Pt → Pt → Pt → Pt → Bool
 inTriangle a b c p = not ((left a b p || left b c p || left c a p) && (right a b p || right b c p || right c a p))

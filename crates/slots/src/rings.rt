@@ -8,9 +8,17 @@ use point_in_poly2d::Verdict;
 use point_in_poly2d::point_in_poly2d;
 ghost use Prim.Native.Nat.{_≤_};
 
-// What the rings of a list come to: whether an odd number of them has a spot inside, their doubled areas' sum, and how many are clockwise.
+// What the outline test says of a spot.
+pub struct Said {
+    pub inside: bool,
+    pub border: bool,
+}
+
+// What the rings of a list come to: whether an odd number of them has a spot inside, whether one has it on its border, their doubled areas' sum,
+// and how many are clockwise.
 pub struct Sum {
     pub odd: bool,
+    pub border: bool,
     pub area: f32,
     pub clockwise: u32,
 }
@@ -31,11 +39,16 @@ fn least(n: usize, most: usize) -> usize
     if n <= most { n } else { most }
 }
 
-pub fn inside(x: f32, y: f32, ring: &[f32]) -> bool {
+fn saying(inside: bool, border: bool) -> Said {
+    Said { inside, border }
+}
+
+pub fn ask(x: f32, y: f32, ring: &[f32]) -> Said {
     match point_in_poly2d(x, y, ring) {
-        Verdict::Refused(_) => false,
-        Verdict::Outside => false,
-        Verdict::Inside => true,
+        Verdict::Refused(_) => saying(false, false),
+        Verdict::Outside => saying(false, false),
+        Verdict::Inside => saying(true, false),
+        Verdict::Border => saying(false, true),
     }
 }
 
@@ -105,8 +118,10 @@ fn plus(sum: Sum, ring: &[f32; MOST_COORDINATES], size: usize, x: f32, y: f32) -
     let corners = front(ring, 2 * size);
     let more = area(corners);
     let one = if more < 0.0 { 1u32 } else { 0u32 };
+    let answer = ask(x, y, corners);
     Sum {
-        odd: sum.odd != inside(x, y, corners),
+        odd: sum.odd != answer.inside,
+        border: sum.border || answer.border,
         area: sum.area + more,
         clockwise: std::num::wrapping_add_u32(sum.clockwise, one),
     }
@@ -117,6 +132,7 @@ pub fn together(coords: &[f32], indices: &[u32], lengths: &[u32], x: f32, y: f32
     let mut ring = no_floats();
     let mut sum = Sum {
         odd: false,
+        border: false,
         area: 0.0,
         clockwise: 0,
     };

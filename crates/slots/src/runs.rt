@@ -1,7 +1,7 @@
 // One run: an outline cut and merged, and its triangles and areas held against it.
 use crate::rings::area;
+use crate::rings::ask;
 use crate::rings::front;
-use crate::rings::inside;
 use crate::rings::together;
 use ear_clipping::triangulate_ear_clipping;
 use entries::MOST_TRIANGLES;
@@ -29,24 +29,82 @@ fn words(list: &[u32], n: usize) -> &[u32] {
     if n <= list.len() { &list[..n] } else { list }
 }
 
-// At how many spots the outline and the rings of a list together say otherwise: with no rings, at those inside the outline.
-fn differing(coords: &[f32], indices: &[u32], lengths: &[u32]) -> u32 {
-    let mut n = 0u32;
-    let mut x = -2.0f32;
-    let mut y = -2.0f32;
+// A spot, and the next one.
+struct Spot {
+    x: f32,
+    y: f32,
+}
+
+fn first() -> Spot {
+    Spot { x: -2.0, y: -2.0 }
+}
+
+fn next(p: Spot) -> Spot {
+    if 41.0 < p.x {
+        Spot {
+            x: -2.0,
+            y: p.y + 1.0,
+        }
+    } else {
+        Spot {
+            x: p.x + 1.0,
+            y: p.y,
+        }
+    }
+}
+
+// With one more where the test holds.
+fn one_more(n: u32, test: bool) -> u32 {
+    if test {
+        std::num::wrapping_add_u32(n, 1)
+    } else {
+        n
+    }
+}
+
+// How many spots are inside an outline, and how many on its border.
+struct Spots {
+    inside: u32,
+    border: u32,
+}
+
+fn spots_of(coords: &[f32]) -> Spots {
+    let mut inside = 0u32;
+    let mut border = 0u32;
+    let mut p = first();
     let mut k = 0;
     while k < SPOTS {
-        if together(coords, indices, lengths, x, y).odd != inside(x, y, coords) {
-            n = std::num::wrapping_add_u32(n, 1);
-        }
-        x += 1.0;
-        if 42.0 < x {
-            x = -2.0;
-            y += 1.0;
-        }
+        let said = ask(p.x, p.y, coords);
+        inside = one_more(inside, said.inside);
+        border = one_more(border, said.border);
+        p = next(p);
         k += 1;
     }
-    n
+    Spots { inside, border }
+}
+
+// At how many spots the outline and the rings of a list together say otherwise, and how many are on the border of a ring and not of the outline. Where no
+// ring says border, the outline does not, and is inside where an odd number of rings is.
+struct Compared {
+    otherwise: u32,
+    between: u32,
+}
+
+fn compare(coords: &[f32], indices: &[u32], lengths: &[u32]) -> Compared {
+    let mut otherwise = 0u32;
+    let mut between = 0u32;
+    let mut p = first();
+    let mut k = 0;
+    while k < SPOTS {
+        let said = ask(p.x, p.y, coords);
+        let rings = together(coords, indices, lengths, p.x, p.y);
+        let other = said.border || rings.odd != said.inside;
+        otherwise = one_more(otherwise, !rings.border && other);
+        between = one_more(between, rings.border && !said.border);
+        p = next(p);
+        k += 1;
+    }
+    Compared { otherwise, between }
 }
 
 // What the rings of a list have in common with the outline.
@@ -61,13 +119,14 @@ fn held(coords: &[f32], what: &[u8], indices: &[u32], lengths: &[u32]) {
     } else {
         text(b"another doubled area");
     }
-    let n = differing(coords, indices, lengths);
-    if n == 0 {
-        text(b", the same points\n");
+    let compared = compare(coords, indices, lengths);
+    if compared.otherwise == 0 {
+        text(b", the same points, ");
     } else {
         text(b", another answer at ");
-        counted(n, b" points\n");
+        counted(compared.otherwise, b" points, ");
     }
+    counted(compared.between, b" on the lines between them left out\n");
 }
 
 fn plan(coords: &[f32]) {
@@ -100,8 +159,9 @@ pub fn run(name: &[u8], line: &[u8]) {
     let mut room = no_floats();
     let read = read_polygon(line, &mut room);
     let coords = front(&room, 2 * wide(read.count));
-    let none = [0u32; 0];
-    counted(differing(coords, &none, &none), b" of ");
-    counted(SPOTS, b" grid points inside\n");
+    let spots = spots_of(coords);
+    counted(spots.inside, b" inside and ");
+    counted(spots.border, b" on the border of ");
+    counted(SPOTS, b" grid points\n");
     plan(coords);
 }

@@ -70,6 +70,28 @@ fn rings(list: &mut impl Side) {
     }
 }
 
+/// Outlines, and spots on their border, on prolongations of their edges, level with corners, inside and outside.
+#[rustfmt::skip]
+const SPOTS: [(&[(i32, i32)], &[(i32, i32)]); 7] = [
+    (&[(0, 0), (4, 0), (4, 4), (0, 4)], &[(0, 2), (4, 2), (2, 0), (2, 4), (2, 2), (5, 2), (4, 4), (6, 0), (4, 6), (-1, 4)]),
+    // a slot, drawn in and out
+    (&[(0, 0), (4, 0), (4, 2), (2, 2), (4, 2), (4, 4), (0, 4)], &[(3, 2), (2, 2), (1, 2), (5, 2)]),
+    (&[(2, 0), (4, 2), (2, 4), (0, 2)], &[(1, 1), (3, 1), (1, 2), (5, 2), (-1, 2), (0, 0)]),
+    // as wide as the grid: one beside the edge from corner to corner
+    (&[(-1024, -1024), (1024, -1024), (1024, 1024)], &[(0, 0), (1023, 1023), (1022, 1023), (1023, 1022), (0, -1024), (-1024, 1024)]),
+    // no corner, one, two
+    (&[], &[(0, 0)]),
+    (&[(1, 1)], &[(1, 1), (1, 2), (2, 1)]),
+    (&[(0, 0), (4, 2)], &[(0, 0), (2, 1), (4, 2), (6, 3), (-2, -1), (2, 2), (2, 0)]),
+];
+
+fn spots(list: &mut impl Side) {
+    for (outline, spots) in SPOTS {
+        let bytes = bytes_of_floats(&coords(outline));
+        spots.iter().for_each(|&(x, y)| list.ask(x as f32, y as f32, &bytes));
+    }
+}
+
 /// A cloud's hull with this much room to spare.
 fn hull(side: &mut impl Side, floats: &[f32], spare: isize) {
     side.hull(&bytes_of_floats(floats), (2 * floats.len() as isize + spare).max(0) as usize);
@@ -153,6 +175,7 @@ fn main() {
     });
     edges(&mut side);
     rings(&mut side);
+    spots(&mut side);
     for (_, shape) in KINDS {
         outline(&mut side, &coords(&shape(16)), 8);
         outline(&mut side, &coords(&shape(30)), 0);

@@ -1,6 +1,6 @@
 -- `walk` meets its contract. The invariant: what was seen so far, with the edges that are left, says what the test says.
 use Prim.Native.Nat.{_-_, _/_}
-use mathlib.Core.Path.{_∙_}
+use mathlib.Core.Path.{_∙_, ap}
 use native.Mathlib.Omega.{arith}
 use borrow.Author.Needs.{needs}
 use lib.ListN.{length}
@@ -8,6 +8,7 @@ use denote.Ref.{now}
 use Rattle.rules.specs.Grid.{pointsOf}
 use Rattle.words.specs.Bytes.{floatsOf}
 use Rattle.grid.specs.Points.{ptOf}
+use Rattle.point_in_poly2d.specs.Verdicts.{answered}
 use Rattle.point_in_poly2d.proofs.Crossings.{no-edges}
 use Rattle.point_in_poly2d.proofs.Words.{points-many}
 use Rattle.point_in_poly2d.proofs.Ring.{Passing, passing-first, passing-more, passing-end}
@@ -15,10 +16,10 @@ use Rattle.point_in_poly2d.proofs.bytes.walk.Statement.{statement}
 use Rattle.point_in_poly2d.proofs.bytes.walk.Tie as tie
 
 abbrev Inv-loop : tie.InvT-loop
-Inv-loop p bytes convex n seen₀ a₀ i₀ seen a i = Passing convex (ptOf p) (pointsOf (floatsOf bytes)) seen a i
+Inv-loop p bytes convex n seen₀ d₀ i₀ seen d i = Passing convex p (pointsOf (floatsOf bytes)) seen d i
 
 abbrev μ-loop : tie.MeasureT-loop
-μ-loop p bytes convex n seen₀ a₀ i₀ seen a i = n - i
+μ-loop p bytes convex n seen₀ d₀ i₀ seen d i = n - i
 
 -- where the function begins, from the loop
 abbrev begin : tie.At-loop Inv-loop μ-loop → tie.Start Inv-loop μ-loop
@@ -27,25 +28,29 @@ begin c = let last = c .before .before in last .before .before
 returns : tie.Need-returns Inv-loop μ-loop
 returns c =
     let s = c .before .before .args in
-    no-edges (s .convex) (ptOf (s .p)) (pointsOf (floatsOf (now (s .bytes)))) (omega (arith, points-many (now (s .bytes)), c .if1 .taken))
+    ap answered (no-edges (s .convex) (ptOf (s .p)) (pointsOf (floatsOf (now (s .bytes)))) (omega (arith, points-many (now (s .bytes)), c .if1 .taken)))
 
-sub-point-at : tie.Need-sub-point-at Inv-loop μ-loop
-sub-point-at c = omega (arith, c .if1 .left)
+sub-way-to : tie.Need-sub-way-to Inv-loop μ-loop
+sub-way-to c = omega (arith, c .if1 .left)
 
-point-at-requires : tie.Need-point-at-requires Inv-loop μ-loop
-point-at-requires c κs = (c .before .before .pre .1, omega (arith, c .if1 .left))
+way-to-requires : tie.Need-way-to-requires Inv-loop μ-loop
+way-to-requires c κs =
+    let s = c .before .before in
+    (s .pre .0, (s .pre .1, omega (arith, c .if1 .left)))
 
 loop-holds : tie.Need-loop-holds Inv-loop μ-loop
 loop-holds c =
     let some = c .before in
     let bytes = now (some .before .before .args .bytes) in
-    passing-first _ _ (pointsOf (floatsOf bytes)) (length bytes / 8 - 1) (omega (arith, points-many bytes, some .if1 .left)) _ (c .point-at .ensures .0) (c .point-at .ensures .1)
+    passing-first _ _ (pointsOf (floatsOf bytes)) (length bytes / 8 - 1) (omega (arith, points-many bytes, some .if1 .left)) (c .way-to .ensures)
 
-point-at-requires-2 : tie.Need-point-at-requires-2 Inv-loop μ-loop
-point-at-requires-2 c κs = (begin (c .before) .pre .1, omega (arith, c .loop-test .taken))
+way-to-requires-2 : tie.Need-way-to-requires-2 Inv-loop μ-loop
+way-to-requires-2 c κs =
+    let s = begin (c .before) in
+    (s .pre .0, (s .pre .1, omega (arith, c .loop-test .taken)))
 
 pass-requires : tie.Need-pass-requires Inv-loop μ-loop
-pass-requires c κs = (begin (c .before .before) .pre .0, (c .before .before .loop .inv .on, c .point-at2 .ensures .0))
+pass-requires c κs = search needs
 
 add-i : tie.Need-add-i Inv-loop μ-loop
 add-i c = omega arith
@@ -56,13 +61,13 @@ loop-less c = omega arith
 loop-again : tie.Need-loop-again Inv-loop μ-loop
 loop-again c =
     let next = c .before in
-    passing-more _ _ _ (next .before .before .loop .inv) (omega (arith, points-many (now (begin (next .before .before) .args .bytes)), next .before .loop-test .taken)) _ (next .point-at2 .ensures .0) (next .point-at2 .ensures .1) _ (c .pass .ensures)
+    passing-more _ _ _ (next .before .before .loop .inv) (omega (arith, points-many (now (begin (next .before .before) .args .bytes)), next .before .loop-test .taken)) _ (next .way-to2 .ensures) _ (c .pass .ensures)
 
 told-requires : tie.Need-told-requires Inv-loop μ-loop
 told-requires c κs = search needs
 
 returns-2 : tie.Need-returns-2 Inv-loop μ-loop
-returns-2 c = c .told .ensures ∙ passing-end _ _ _ (c .before .before .loop .inv) (omega (arith, points-many (now (begin (c .before .before) .args .bytes)), c .before .loop-test .left))
+returns-2 c = c .told .ensures ∙ ap answered (passing-end _ _ _ (c .before .before .loop .inv) (omega (arith, points-many (now (begin (c .before .before) .args .bytes)), c .before .loop-test .left)))
 
 pub walk-spec : {M : Type 1} → statement M
 walk-spec =
@@ -71,10 +76,10 @@ walk-spec =
     Inv-loop
     μ-loop
     returns
-    sub-point-at
-    point-at-requires
+    sub-way-to
+    way-to-requires
     loop-holds
-    point-at-requires-2
+    way-to-requires-2
     pass-requires
     add-i
     loop-less
