@@ -41,7 +41,7 @@ from-below a c = leZ-not-ltZ a c ∙ ap not (ltZ-eq {a = c} {b = a} {c = pos 0} 
 from-above : (a c : ℤ) → leZ c a ≡ not (ltZ (a -ℤ c) (pos 0))
 from-above a c = leZ-not-ltZ c a ∙ ap not (ltZ-eq {a = a} {b = c} {c = a -ℤ c} {d = pos 0} (λ h. omega (lin, at- a c)) (λ h. omega (lin, at- a c)))
 
-pub product-between : (a b c : ℤ) → ltZ (pos 0) ((a -ℤ c) *ℤ (b -ℤ c)) ≡ not (between a b c)
+product-between : (a b c : ℤ) → ltZ (pos 0) ((a -ℤ c) *ℤ (b -ℤ c)) ≡ not (between a b c)
 product-between a b c = rw (from-below a c, from-above b c, from-below b c, from-above a c) (product-above x y ∙ signs (ltZ (pos 0) x) refl (ltZ x (pos 0)) refl (ltZ (pos 0) y) refl (ltZ y (pos 0)) refl)
   where
     x : ℤ

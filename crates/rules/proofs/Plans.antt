@@ -23,7 +23,7 @@ use Rattle.rules.specs.Measure.{points, area2}
 use Rattle.rules.specs.Lines.{areasFor}
 use Rattle.rules.proofs.Pieces.{merging}
 use Rattle.rules.proofs.Measures.{edge-points, edges-points, pieces-inside, pieces-area}
-use Rattle.rules.proofs.KeptEdges.{counted, counted-back, kept-edges}
+use Rattle.rules.proofs.KeptEdges.{counted, counted-back, EdgeOf, kept-edges}
 use Rattle.rules.proofs.Borders.{Bordered, bordered}
 use Rattle.rules.proofs.Outline.{all-points, cut-sum, cut-count, cut-indices, cut-inside, cut-area}
 use Rattle.rules.proofs.Accepted.{Accepted}
@@ -73,6 +73,10 @@ merged-plan may {ps} {rings} plan = record {
 
 -- ---- the border
 
+-- every edge of the outline is, in its direction, an edge of some ring
+pub plan-edges : (ps : List Pt) (rings : List (List ℕ)) → 3 ≤ length ps → Plan ps rings → Each (EdgeOf rings) (edges (countFrom 0 (length ps)))
+plan-edges ps rings three plan = kept-edges (length ps) three rings (plan .edge-counts)
+
 module _ (ps : List Pt) (p : Pt) where
   abbrev on : Edge ℕ → Bool
   on e = onEdge p (point ps (e .from)) (point ps (e .to))
@@ -86,7 +90,7 @@ module _ (ps : List Pt) (p : Pt) where
   touches rings three plan h =
       let ring = countFrom 0 (length ps) in
       let (e, m, k) = any-found on (edges ring) (sym (border-points ring) ∙ ap (onBorder p) (all-points ps) ∙ h) in
-      let (t, i, j) = each-of (kept-edges (length ps) three rings (plan .edge-counts)) m in
+      let (t, i, j) = each-of (plan-edges ps rings three plan) m in
       any-map (onBorder p) (points ps) rings ∙ any-member (λ t. onBorder p (points ps t)) rings i (border-points t ∙ any-member on (edges t) j k)
 
 -- what the rings of a plan say of the outline's border
