@@ -1,7 +1,7 @@
 -- One edge by the ways from the asked point to its ends, and the loop over the edges for either test.
 use Prim.Native.Nat.{_≤_, _<_}
 use mathlib.Core.Path.{_≡_, refl, sym, _∙_, ap, ap₂}
-use mathlib.Core.Bool.{Bool, true, false, not, cond, _&&_, _||_, and-comm}
+use mathlib.Core.Bool.{Bool, true, false, not, cond, _&&_, _||_, or-false, or-assoc, and-comm}
 use mathlib.Core.List.{List, [], _∷_}
 use native.Mathlib.Omega.{arith}
 use lib.ListN.{length}
@@ -71,17 +71,9 @@ unfolding passedAll passed
 odd-all p s [] = xor-comm false (s .odd)
 odd-all p s (e ∷ es) = odd-all p (passed false p s (e .from) (e .to)) es ∙ xor-assoc (s .odd) (crossed p (e .from) (e .to)) (odd (λ e. crossed p (e .from) (e .to)) es)
 
-or-false-r : (t : Bool) → t ≡ (t || false)
-or-false-r true = refl
-or-false-r false = refl
-
-or-assoc : (s t u : Bool) → ((s || t) || u) ≡ (s || (t || u))
-or-assoc true t u = refl
-or-assoc false t u = refl
-
 touched-all : (p : Pt) (s : Seen) (es : List (Edge Pt)) → passedAll false p s es .touched ≡ (s .touched || any (λ e. onEdge p (e .from) (e .to)) es)
 unfolding passedAll passed
-touched-all p s [] = or-false-r (s .touched)
+touched-all p s [] = sym (or-false (s .touched))
 touched-all p s (e ∷ es) = touched-all p (passed false p s (e .from) (e .to)) es ∙ or-assoc (s .touched) (onEdge p (e .from) (e .to)) _
 
 sides-all :
@@ -89,7 +81,7 @@ sides-all :
     → (passedAll true p s es .left ≡ (s .left || any (λ e. ltZ (perp p (e .from) (e .to)) (pos 0)) es))
     × (passedAll true p s es .right ≡ (s .right || any (λ e. ltZ (pos 0) (perp p (e .from) (e .to))) es))
 unfolding passedAll passed
-sides-all p s [] = (or-false-r (s .left), or-false-r (s .right))
+sides-all p s [] = (sym (or-false (s .left)), sym (or-false (s .right)))
 sides-all p s (e ∷ es) =
     let (l, r) = sides-all p (passed true p s (e .from) (e .to)) es in
     (l ∙ or-assoc (s .left) (ltZ (perp p (e .from) (e .to)) (pos 0)) _, r ∙ or-assoc (s .right) (ltZ (pos 0) (perp p (e .from) (e .to))) _)

@@ -1,7 +1,7 @@
 -- In whole numbers: a point on the line of an edge is on the edge where the dot product of the ways to its ends isn't above zero.
 use Prim.Native.Nat.{ℕ, zero, suc, _*_, _<_}
 use mathlib.Core.Path.{_≡_, refl, sym, _∙_, ap, ap₂, subst}
-use mathlib.Core.Bool.{Bool, true, false, not, _&&_, _||_}
+use mathlib.Core.Bool.{Bool, true, false, not, _&&_, _||_, Bool·not-not}
 use mathlib.Core.List.{[], _∷_}
 use native.Mathlib.Omega.{arith}
 use native.Mathlib.Nat.{mul-pos, mul-zero, zero-mul}
@@ -86,10 +86,6 @@ sum-above x y h = go (ltZ (pos 0) x) refl (ltZ (pos 0) y) refl (ltZ (pos 0) (x +
     go false i true j false k = let p : pos 0 <ℤ y = omega lin in let q = other y x p (rw (*ℤ-comm y x) h) in absurd (omega (lin, at+ x y))
     go false i false j false k = refl
 
-not-not : (t : Bool) → not (not t) ≡ t
-not-not true = refl
-not-not false = refl
-
 module _ (a b p : Pt) where
   abbrev u : Pt
   u = minus a p
@@ -115,7 +111,7 @@ module _ (a b p : Pt) where
       boxed e =
           sum-above (u .x *ℤ v .x) (u .y *ℤ v .y) (products e)
           ∙ ap₂ (λ (s t : Bool). not s && not t) (product-between (a .x) (b .x) (p .x)) (product-between (a .y) (b .y) (p .y))
-          ∙ ap₂ _&&_ (not-not (between (a .x) (b .x) (p .x))) (not-not (between (a .y) (b .y) (p .y)))
+          ∙ ap₂ _&&_ (Bool·not-not (between (a .x) (b .x) (p .x))) (Bool·not-not (between (a .y) (b .y) (p .y)))
 
       go : (l : Bool) → left a b p ≡ l → (r : Bool) → right a b p ≡ r → ((not l && not r) && not (ltZ (pos 0) (dot u v))) ≡ (not (l || r) && inBox a b p)
       go true i r j = refl

@@ -2,7 +2,7 @@
 -- answers of several rings say of an outline that has their edges and their parity.
 use mathlib.Core.Path.{_≡_, refl, sym, _∙_, ap, ap₂}
 use mathlib.Core.Logic.{_≢_}
-use mathlib.Core.Bool.{Bool, true, false, not, cond, _&&_, _||_, or-comm}
+use mathlib.Core.Bool.{Bool, true, false, not, cond, _&&_, _||_, or-comm, or-false, or-self-left}
 use mathlib.Core.List.{List, [], _∷_, List·Memᴰ}
 use native.Mathlib.Omega.{arith}
 use lib.IntN.{ℤ}
@@ -141,12 +141,8 @@ unfolding position onBorder oddCrossings
 two-corners p a b =
     ap₂ (λ t o. cond t border (cond o inside outside)) touching even
   where
-    same : (t : Bool) → (t || (t || false)) ≡ t
-    same true = refl
-    same false = refl
-
     touching : (onEdge p a b || (onEdge p b a || false)) ≡ onEdge p a b
-    touching = ap (λ (t : Bool). onEdge p a b || (t || false)) (edge-back p a b) ∙ same (onEdge p a b)
+    touching = ap (λ (t : Bool). onEdge p a b || (t || false)) (edge-back p a b) ∙ or-self-left (onEdge p a b) false ∙ or-false (onEdge p a b)
 
     even : xor (crossed p a b) (xor (crossed p b a) false) ≡ false
     even = ap (λ (t : Bool). xor (crossed p a b) (xor t false)) (sym (crossed-back p a b)) ∙ twice (crossed p a b)
