@@ -38,7 +38,7 @@ written-more old at s t h =
 
 -- ---- what a call wrote
 
-wrote-none : (old : List ℕ) (at : ℕ) → at ≤ length old → Wrote old old at at []
+pub wrote-none : (old : List ℕ) (at : ℕ) → at ≤ length old → Wrote old old at at []
 unfolding written
 wrote-none old at h = record { is = sym (ap (λ (k : ℕ). take at old ++ drop k old) (add-zero at) ∙ take-append-drop at old); ends = sym (add-zero at); room = record { fits = omega arith } }
 

@@ -39,7 +39,7 @@ fn write_digit(d: u32, out: &mut [u8], at: usize) -> usize
 }
 
 // All digits but the last, and the last.
-fn write_natural(n: u32, out: &mut [u8], at: usize) -> usize
+pub fn write_natural(n: u32, out: &mut [u8], at: usize) -> usize
     requires { ⌜ Room (now out) at (natural n) ⌝ }
     ensures { λ r. ⌜ Wrote (now (out .entry)) (now (out .exit)) at r (natural n) ⌝ }
 {

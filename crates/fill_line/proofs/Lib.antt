@@ -1,4 +1,3 @@
-pub mod FirstLine
 pub mod Cutting
 pub mod Filling
 pub mod Entry

@@ -16,7 +16,6 @@ ghost use lib.ListN.{length, take};
 ghost use Rattle.rules.specs.Entries.{trianglesFor};
 ghost use Rattle.rules.specs.Limits.{mostPoints, mostCoordinates, mostIndices};
 ghost use Rattle.rules.specs.Lines.{areasFor, fillRoom, Fills};
-ghost use Rattle.rules.specs.Text.{firstLine};
 ghost use Rattle.wkt.specs.Promise.{writingOf};
 ghost use Rattle.fill_line.specs.CutLine.{lentFor, CutLine};
 
@@ -28,21 +27,6 @@ pub fn text_room() -> [u8; MOST_TEXT]
     ensures { λ r. ⌜ length r ≡ fillRoom mostPoints ⌝ }
 {
     [0u8; MOST_TEXT]
-}
-
-// Where the first line of some bytes ends: at its newline, or behind the last byte.
-pub fn line_end(bytes: &[u8]) -> usize
-    ensures { λ r. ⌜ take r (now (bytes .entry)) ≡ firstLine (now (bytes .entry)) ⌝ }
-    ensures { λ r. ⌜ r ≤ length (now (bytes .entry)) ⌝ }
-{
-    let mut i = 0;
-    while i < bytes.len() {
-        if bytes[i] == b'\n' {
-            return i;
-        }
-        i += 1;
-    }
-    i
 }
 
 // How much room is asked for n corners.

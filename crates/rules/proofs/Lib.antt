@@ -47,6 +47,11 @@ pub mod TextLines
 pub mod LineAnswers
 pub mod TextLengths
 pub mod TextCases
+pub mod Streams
+pub mod LineMeanings
+pub mod Replies
+pub mod PlaybackReads
+pub mod PlaybackCases
 pub mod Plans
 pub mod Both
 pub mod FillRows

@@ -20,7 +20,7 @@ use Rattle.rules.specs.Text.{natural, decimal, pointText, behind, parted
 use Rattle.rules.proofs.GridSizes.{GridPoint}
 use Rattle.rules.proofs.TextNumbers.{natural-one, natural-split}
 
-natural-length : (k n : ℕ) → n < 10 ^ suc k → length (natural n) ≤ suc k
+pub natural-length : (k n : ℕ) → n < 10 ^ suc k → length (natural n) ≤ suc k
 natural-length zero n h = omega (arith, ap length (natural-one n (omega arith)))
 natural-length (suc k) n h = go (ltb n 10) refl (natural-length k (n / 10))
   where

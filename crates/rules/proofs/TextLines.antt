@@ -88,7 +88,7 @@ snoc-first a b l m e =
 no-point : (p : Pt) (r s : List ℕ) → 41 ∷ s ≡ pointText p ++ r → ⊥
 no-point p r s h = omega (arith, at-first (h ∙ point-splits p r), decimal-first (p .x) (32 ∷ (decimal (p .y) ++ r)))
 
-ring-parse : (cs ds : List Pt) (s t : List ℕ) → ringText cs ++ s ≡ ringText ds ++ t → (cs ≡ ds) × (s ≡ t)
+pub ring-parse : (cs ds : List Pt) (s t : List ℕ) → ringText cs ++ s ≡ ringText ds ++ t → (cs ≡ ds) × (s ≡ t)
 unfolding ringText
 ring-parse [] [] s t h = (refl, cc)
 ring-parse [] (d ∷ ds) s t h = let k = h ∙ ring-splits d ds t in absurd (no-point d (behind (map pointText (ds ++ (d ∷ []))) ++ (41 ∷ t)) s (cc))

@@ -17,5 +17,8 @@ pub mod Entries
 pub mod Measure
 pub mod Text
 pub mod Lines
+pub mod Stream
+pub mod Playback
+pub mod PlaybackCases
 pub mod TextCases
 pub mod Cases

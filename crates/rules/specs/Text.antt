@@ -78,6 +78,15 @@ unfoldable pub polygonLine : List Pt → List ℕ
 unfolding areaText
 polygonLine corners = bytes "POLYGON " ++ areaText corners
 
+-- of three corners
+unfoldable pub triangleLine : List Pt → List ℕ
+unfolding areaText
+triangleLine corners = bytes "TRIANGLE " ++ areaText corners
+
+unfoldable pub pointLine : Pt → List ℕ
+unfolding pointText
+pointLine p = bytes "POINT " ++ inParentheses (pointText p)
+
 unfoldable pub multipolygonLine : List (List Pt) → List ℕ
 unfolding areaText parted
 multipolygonLine rings = bytes "MULTIPOLYGON " ++ inParentheses (parted (map areaText rings))

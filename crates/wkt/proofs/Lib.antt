@@ -3,6 +3,7 @@ pub mod Forms
 pub mod Marks
 pub mod Stores
 pub mod Passing
+pub mod WholeLines
 pub mod Corners
 pub mod ReadEntry
 pub mod Outcomes

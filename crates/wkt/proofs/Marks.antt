@@ -1,4 +1,4 @@
--- What stands around the points: the opening, a comma and a space, the closing.
+-- What stands around the points: the word that a line starts with, a comma and a space, and what it ends with.
 use Prim.Native.Char.{code}
 use Prim.Native.Nat.{ℕ, _+_, _-_, _≤_, _<_}
 use native.Mathlib.Omega.{arith}
@@ -6,12 +6,10 @@ use mathlib.Core.Path.{_≡_, refl, sym, ap, _∙_}
 use mathlib.Core.Bool.{Bool, true, false, false≢true}
 use mathlib.Core.Logic.{_≢_}
 use mathlib.Core.List.{List, _∷_, _++_}
-use lib.ListN.{length, take, drop, getD, take-append-drop, length-drop}
+use lib.ListN.{length, take, drop, getD, length-append, take-append-drop, length-drop}
 use lib.Seq.{take-at, take-all, drop-drop}
-use Rattle.rules.specs.Text.{NotInForm, mostBytes}
 use Rattle.decimals.proofs.Places.{next-byte, first-is}
-use Rattle.wkt.specs.Reads.{opening, parting, closing, begin, Opened, NoParting}
-use Rattle.wkt.proofs.Forms.{not-opened}
+use Rattle.wkt.specs.Reads.{parting, Starts, NoStart, NoParting}
 
 -- a comparison's answer, both ways
 pub told : {A : Type 0} {x y : A} (r : Bool) → (r ≡ true → x ≡ y) × (x ≡ y → r ≡ true) → (r ≡ true → x ≡ y) × (r ≡ false → x ≢ y)
@@ -19,14 +17,14 @@ told r h = (h .0, λ e q. false≢true (sym e ∙ h .1 q))
 
 -- ---- the opening
 
-pub too-short : (line : List ℕ) → length line < begin → NotInForm line
-too-short line h = not-opened line (λ m e. omega (arith, ap length e))
+pub too-short : (line word : List ℕ) → length line < length word → NoStart word line
+too-short line word h m e = omega (arith, ap length e, length-append word m)
 
-pub opens-told : (line : List ℕ) (r : Bool) → length line ≤ mostBytes → (r ≡ true → take begin line ≡ opening) × (take begin line ≡ opening → r ≡ true)
-    → (r ≡ true → Opened line) × (r ≡ false → NotInForm line)
-opens-told line r short h = (
-  λ e. record { short = short; starts = sym (take-append-drop begin line) ∙ ap (λ (l : List ℕ). l ++ drop begin line) (h .0 e) },
-  λ e. not-opened line (λ m q. false≢true (sym e ∙ h .1 (ap (take begin) q ∙ take-at opening m begin refl))),
+pub starts-told : (line word : List ℕ) (r : Bool) → (r ≡ true → take (length word) line ≡ word) × (take (length word) line ≡ word → r ≡ true)
+    → (r ≡ true → Starts word line) × (r ≡ false → NoStart word line)
+starts-told line word r h = (
+  λ e. sym (take-append-drop (length word) line) ∙ ap (λ (l : List ℕ). l ++ drop (length word) line) (h .0 e),
+  λ e m q. false≢true (sym e ∙ h .1 (ap (take (length word)) q ∙ take-at word m (length word) refl)),
 )
 
 -- ---- between two points
@@ -55,10 +53,10 @@ module _ (line : List ℕ) (at : ℕ) (comma : getD line at 0 ≡ code ",") wher
 pub room-for-two : (line : List ℕ) (at : ℕ) → drop at line ≡ parting ++ drop (at + 2) line → at + 2 ≤ length line
 room-for-two line at e = omega (arith, ap length e, length-drop at line, length-drop (at + 2) line)
 
--- ---- the closing
+-- ---- the end
 
-pub closes-told : (line : List ℕ) (at : ℕ) (r : Bool) → (r ≡ true → take (length line - at) (drop at line) ≡ closing) × (take (length line - at) (drop at line) ≡ closing → r ≡ true)
-    → (r ≡ true → drop at line ≡ closing) × (r ≡ false → drop at line ≢ closing)
-closes-told line at r h =
+pub ends-told : (line word : List ℕ) (at : ℕ) (r : Bool) → (r ≡ true → take (length line - at) (drop at line) ≡ word) × (take (length line - at) (drop at line) ≡ word → r ≡ true)
+    → (r ≡ true → drop at line ≡ word) × (r ≡ false → drop at line ≢ word)
+ends-told line word at r h =
     let e : take (length line - at) (drop at line) ≡ drop at line = take-all (length line - at) (drop at line) (omega (arith, length-drop at line)) in
     (λ t. sym e ∙ h .0 t, λ t q. false≢true (sym t ∙ h .1 (e ∙ q)))

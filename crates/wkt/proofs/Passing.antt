@@ -1,4 +1,5 @@
 -- The points of a line, passed one after the other; and what they say of the line where they end.
+use Prim.Native.Char.{code}
 use Prim.Native.Nat.{ℕ, zero, suc, _+_, _-_, _≤_, _<_}
 use native.Mathlib.Omega.{arith}
 use mathlib.Core.Path.{_≡_, refl, sym, ap, _∙_}
@@ -11,12 +12,12 @@ use Rattle.algebra.specs.Rings.{lastOf}
 use Rattle.algebra.proofs.Rings.{last-++}
 use Rattle.rules.specs.Limits.{mostCoordinates}
 use Rattle.rules.specs.Plane.{Pt}
-use Rattle.rules.specs.Text.{bytes, pointText, behind, polygonLine, InForm, NotInForm}
+use Rattle.rules.specs.Text.{bytes, decimal, pointText, behind}
 use Rattle.rules.specs.Lines.{coordinates}
 use Rattle.rules.proofs.TextNumbers.{at-first, ends-nil}
-use Rattle.rules.proofs.TextLines.{point-parse, ends-behind, behind-parse, behind-snoc, GoesOn, stops, line-splits}
-use Rattle.wkt.specs.Reads.{opening, parting, closing, begin, Opened, NoParting, PointAt, NoPoint, stored, Held, Passed, ReadAs}
-use Rattle.wkt.proofs.Forms.{Written, written, ends-closed}
+use Rattle.rules.proofs.TextLines.{point-parse, ends-behind, behind-parse, behind-snoc, GoesOn, stops}
+use Rattle.wkt.specs.Reads.{parting, closing, NoParting, PointAt, NoPoint, stored, Held, Passed, ringRest, NoRing, RingRead}
+use Rattle.wkt.proofs.Forms.{ends-closed}
 use Rattle.wkt.proofs.Marks.{room-for-two}
 use Rattle.wkt.proofs.Stores.{length-stored, held-none, held-more}
 
@@ -38,10 +39,14 @@ between line m a e h p q = ap (take (e - a)) h ∙ take-at m (drop e line) (e - 
 
 -- ---- from the first point on
 
-pub passed-first : (line : List ℕ) (coords : List Float) (end : ℕ) (x y : Float) → begin ≤ length line → length coords ≡ mostCoordinates → PointAt line begin end x y
-    → Passed line (stored coords 0 x y) end begin end 1
+point-some : (p : Pt) → 0 < length (pointText p)
+unfolding pointText
+point-some p = omega (arith, length-append (decimal (p .x)) (code " " ∷ decimal (p .y)))
+
+pub passed-first : (line : List ℕ) (coords : List Float) (begin end : ℕ) (x y : Float) → begin ≤ length line → length coords ≡ mostCoordinates → PointAt line begin end x y
+    → Passed line begin (stored coords 0 x y) end begin end 1
 unfolding behind
-passed-first line coords end x y o size h =
+passed-first line coords begin end x y o size h =
     let e : end ≡ begin + length (pointText (h .p)) = apart line (pointText (h .p)) begin end (h .text) o (h .within) in
     record {
       p = h .p;
@@ -55,11 +60,11 @@ passed-first line coords end x y o size h =
       size = length-stored coords 0 x y ∙ size;
       starts = (omega arith, h .within);
       stands = (omega arith, h .within);
-      few = omega arith;
+      few = omega (arith, point-some (h .p));
     }
 
-pub passed-more : {line : List ℕ} {coords : List Float} {after from at n end : ℕ} {x y : Float} → Passed line coords after from at n
-    → drop at line ≡ parting ++ drop (at + 2) line → PointAt line (at + 2) end x y → Passed line (stored coords n x y) after (at + 2) end (n + 1)
+pub passed-more : {line : List ℕ} {begin : ℕ} {coords : List Float} {after from at n end : ℕ} {x y : Float} → Passed line begin coords after from at n
+    → drop at line ≡ parting ++ drop (at + 2) line → PointAt line (at + 2) end x y → Passed line begin (stored coords n x y) after (at + 2) end (n + 1)
 passed-more {line = line} {coords = coords} {at = at} {n = n} {end = end} {x = x} {y = y} w e h =
     let o : at + 2 ≤ length line = room-for-two line at e in
     let d : end ≡ at + 2 + length (pointText (h .p)) = apart line (pointText (h .p)) (at + 2) end (h .text) o (h .within) in
@@ -80,10 +85,10 @@ passed-more {line = line} {coords = coords} {at = at} {n = n} {end = end} {x = x
     }
 
 -- the coordinates that a call left
-pub passed-as : {line : List ℕ} {old new : List Float} {after from at n : ℕ} → new ≡ old → Passed line old after from at n → Passed line new after from at n
+pub passed-as : {line : List ℕ} {begin : ℕ} {old new : List Float} {after from at n : ℕ} → new ≡ old → Passed line begin old after from at n → Passed line begin new after from at n
 passed-as e w = rw e w
 
--- ---- what stands behind the points of a line in form
+-- ---- what stands behind the points of a ring
 
 -- a comma, a space and a point, or the closing
 no-next : (line : List ℕ) (at : ℕ) (rest : List Pt) → drop at line ≡ behind (map pointText rest) ++ closing → drop at line ≡ parting ++ drop (at + 2) line → NoPoint line (at + 2) → ⊥
@@ -118,48 +123,45 @@ same-point : (p q : Pt) → pointText p ≡ pointText q → p ≡ q
 same-point p q e = point-parse p q [] [] ends-nil ends-nil (ap (λ (l : List ℕ). l ++ []) e) .0
 
 -- the last of the points is the first again, so the others are the corners
-whole-line : (line : List ℕ) (p : Pt) (qs : List Pt) → line ≡ opening ++ drop begin line → drop begin line ≡ pointText p ++ (behind (map pointText qs) ++ closing) → qs ≢ [] → p ≡ lastOf p qs
-    → line ≡ polygonLine (inits p qs)
-unfolding inits
-whole-line line p [] o e some l = absurd (some refl)
-whole-line line p (q ∷ qs) o e some l =
+closed-ring : (p q : Pt) (qs : List Pt) (rest : List ℕ) → rest ≡ pointText p ++ (behind (map pointText (q ∷ qs)) ++ closing) → p ≡ lastOf q qs → rest ≡ ringRest p (inits q qs)
+unfolding ringRest
+closed-ring p q qs rest e l =
     let back : q ∷ qs ≡ inits q qs ++ (p ∷ []) = inits-last q qs ∙ ap (λ (x : Pt). inits q qs ++ (x ∷ [])) (sym l) in
-    o ∙ ap (λ (m : List ℕ). opening ++ m) (e ∙ ap (λ (m : List Pt). pointText p ++ (behind (map pointText m) ++ closing)) back) ∙ sym (line-splits p (inits q qs))
+    e ∙ ap (λ (m : List Pt). pointText p ++ (behind (map pointText m) ++ closing)) back
 
 -- ---- of a line whose points were passed
 
--- the points of a line in form go on from those that were passed
+-- the points of a ring go on from those that were passed
 record Going (p : Pt) (qs : List Pt) (r : List ℕ) : Type 0 where
   cs : List Pt
   goes : GoesOn qs (cs ++ (p ∷ [])) r (bytes ")")
 
-module _ {line : List ℕ} {coords : List Float} {after from at n : ℕ} (w : Passed line coords after from at n) where
-  going : (corners : List Pt) → InForm line corners → Going (w .p) (w .qs) (drop at line)
-  going corners f =
-      let g : Written line = written line corners f in
+module _ {line : List ℕ} {begin : ℕ} {coords : List Float} {after from at n : ℕ} (w : Passed line begin coords after from at n) where
+  going : (c : Pt) (cs : List Pt) → drop begin line ≡ ringRest c cs → Going (w .p) (w .qs) (drop at line)
+  unfolding ringRest
+  going c cs f =
       let R : List ℕ = behind (map pointText (w .qs)) ++ drop at line in
-      let S : List ℕ = behind (map pointText (g .cs ++ (g .c ∷ []))) ++ closing in
-      let a : (w .p ≡ g .c) × (R ≡ S)
-      = point-parse (w .p) (g .c) R S (ends-behind (w .qs) (drop at line) (w .ends)) (ends-closed (g .cs ++ (g .c ∷ []))) (sym (w .text) ∙ ap (drop begin) (g .text)) in
-      let k : R ≡ behind (map pointText (g .cs ++ (w .p ∷ []))) ++ closing = a .1 ∙ ap (λ (q : Pt). behind (map pointText (g .cs ++ (q ∷ []))) ++ closing) (sym (a .0)) in
-      record { cs = g .cs; goes = behind-parse (w .qs) (g .cs ++ (w .p ∷ [])) (drop at line) (bytes ")") (w .ends) k }
+      let S : List ℕ = behind (map pointText (cs ++ (c ∷ []))) ++ closing in
+      let a : (w .p ≡ c) × (R ≡ S) = point-parse (w .p) c R S (ends-behind (w .qs) (drop at line) (w .ends)) (ends-closed (cs ++ (c ∷ []))) (sym (w .text) ∙ f) in
+      let k : R ≡ behind (map pointText (cs ++ (w .p ∷ []))) ++ closing = a .1 ∙ ap (λ (q : Pt). behind (map pointText (cs ++ (q ∷ []))) ++ closing) (sym (a .0)) in
+      record { cs = cs; goes = behind-parse (w .qs) (cs ++ (w .p ∷ [])) (drop at line) (bytes ")") (w .ends) k }
 
-  pub no-next-point : drop at line ≡ parting ++ drop (at + 2) line → NoPoint line (at + 2) → NotInForm line
-  unfolding NotInForm
-  no-next-point e h corners f = let g = going corners f in no-next line at (g .goes .rest) (g .goes .text) e h
+  pub no-next-point : drop at line ≡ parting ++ drop (at + 2) line → NoPoint line (at + 2) → NoRing (drop begin line)
+  unfolding NoRing
+  no-next-point e h c cs f = let g = going c cs f in no-next line at (g .goes .rest) (g .goes .text) e h
 
-  pub not-closed : NoParting line at → drop at line ≢ closing → NotInForm line
-  unfolding NotInForm
-  not-closed h k corners f = let g = going corners f in k (ended line at (g .goes .rest) (g .goes .text) h)
+  pub not-closed : NoParting line at → drop at line ≢ closing → NoRing (drop begin line)
+  unfolding NoRing
+  not-closed h k c cs f = let g = going c cs f in k (ended line at (g .goes .rest) (g .goes .text) h)
 
   -- closed, so the points are all there are
   all-passed : (g : Going (w .p) (w .qs) (drop at line)) → drop at line ≡ closing → g .cs ++ (w .p ∷ []) ≡ w .qs
   all-passed g e = g .goes .whole ∙ ap (λ (l : List Pt). w .qs ++ l) (stops (g .goes .rest) (bytes ")") (bytes ")") (sym e ∙ g .goes .text) .0) ∙ append-nil (w .qs)
 
-  one-point : NoParting line at → n < 2 → NotInForm line
-  unfolding NotInForm
-  one-point h k corners f =
-      let g = going corners f in
+  one-point : NoParting line at → n < 2 → NoRing (drop begin line)
+  unfolding NoRing
+  one-point h k c cs f =
+      let g = going c cs f in
       let e : drop at line ≡ closing = ended line at (g .goes .rest) (g .goes .text) h in
       omega (arith, w .counted, ap length (all-passed g e), length-append (g .cs) (w .p ∷ []))
 
@@ -170,32 +172,42 @@ module _ {line : List ℕ} {coords : List Float} {after from at n : ℕ} (w : Pa
   last-text : take (at - from) (drop from line) ≡ pointText (lastOf (w .p) (w .qs))
   last-text = between line (pointText (lastOf (w .p) (w .qs))) from at (w .last) (omega (arith, w .stands)) (w .stands .1)
 
-  pub not-repeated : drop at line ≡ closing → take (after - begin) (drop begin line) ≢ take (at - from) (drop from line) → NotInForm line
-  unfolding NotInForm
-  not-repeated e h corners f =
-      let g = going corners f in
+  pub not-repeated : drop at line ≡ closing → take (after - begin) (drop begin line) ≢ take (at - from) (drop from line) → NoRing (drop begin line)
+  unfolding NoRing
+  not-repeated e h c cs f =
+      let g = going c cs f in
       let l : lastOf (w .p) (w .qs) ≡ w .p = ap (lastOf (w .p)) (sym (all-passed g e)) ∙ last-++ (w .p) (g .cs) (w .p) [] in
       h (first-text ∙ ap pointText (sym l) ∙ sym last-text)
 
-  pub read : Opened line → drop at line ≡ closing → take (after - begin) (drop begin line) ≡ take (at - from) (drop from line) → (k : ℕ) → 0 < k → k + 1 ≡ n → ReadAs line k coords
-  unfolding Held
-  read o e same k some-corner but-one =
-      let cs : List Pt = inits (w .p) (w .qs) in
-      let l : w .p ≡ lastOf (w .p) (w .qs) = same-point (w .p) (lastOf (w .p) (w .qs)) (sym first-text ∙ same ∙ last-text) in
-      let t : drop begin line ≡ pointText (w .p) ++ (behind (map pointText (w .qs)) ++ closing) = w .text ∙ ap (λ (m : List ℕ). pointText (w .p) ++ (behind (map pointText (w .qs)) ++ m)) e in
-      let all : k ≡ length cs = omega (arith, w .counted, length-inits (w .p) (w .qs)) in
-      record {
-        corners = cs;
-        in-form = record {
-          written = whole-line line (w .p) (w .qs) (o .starts) t (λ q. omega (arith, w .counted, ap length q)) l;
-          some-corner = λ q. omega (arith, all, ap length q);
-          short = o .short;
-        };
-        counted = all;
-        held = λ room. w .held k (omega arith) room ∙ ap coordinates (ap (take k) (inits-last (w .p) (w .qs)) ∙ take-at cs (lastOf (w .p) (w .qs) ∷ []) k (sym all));
-      }
+  pub read : drop at line ≡ closing → take (after - begin) (drop begin line) ≡ take (at - from) (drop from line) → (k : ℕ) → 0 < k → k + 1 ≡ n → RingRead (drop begin line) k coords
+  unfolding Held inits
+  read e same k some-corner but-one = go (w .qs) refl
+    where
+      p : Pt
+      p = w .p
 
-pub few-points : {line : List ℕ} {coords : List Float} {after from at : ℕ} (n : ℕ) → (n ≡ 0 → NotInForm line) × (n ≢ 0 → Passed line coords after from at n × NoParting line at) → n < 2
-    → NotInForm line
+      l : p ≡ lastOf p (w .qs)
+      l = same-point p (lastOf p (w .qs)) (sym first-text ∙ same ∙ last-text)
+
+      t : drop begin line ≡ pointText p ++ (behind (map pointText (w .qs)) ++ closing)
+      t = w .text ∙ ap (λ (m : List ℕ). pointText p ++ (behind (map pointText (w .qs)) ++ m)) e
+
+      go : (qs : List Pt) → w .qs ≡ qs → RingRead (drop begin line) k coords
+      go [] q = absurd (omega (arith, w .counted, ap length q))
+      go (q ∷ qs) f =
+          let all : k ≡ length (p ∷ inits q qs) = omega (arith, w .counted, ap length f, length-inits q qs) in
+          let front : p ∷ w .qs ≡ (p ∷ inits q qs) ++ (lastOf q qs ∷ []) = ap (λ (m : List Pt). p ∷ m) (f ∙ inits-last q qs) in
+          record {
+            c = p;
+            cs = inits q qs;
+            text = closed-ring p q qs (drop begin line) (t ∙ ap (λ (m : List Pt). pointText p ++ (behind (map pointText m) ++ closing)) f) (l ∙ ap (lastOf p) f);
+            known = record {
+              counted = all;
+              held = λ room. w .held k (omega arith) room ∙ ap coordinates (ap (take k) front ∙ take-at (p ∷ inits q qs) (lastOf q qs ∷ []) k (sym all));
+            };
+          }
+
+pub few-points : {line : List ℕ} {begin : ℕ} {coords : List Float} {after from at : ℕ} (n : ℕ)
+    → (n ≡ 0 → NoRing (drop begin line)) × (n ≢ 0 → Passed line begin coords after from at n × NoParting line at) → n < 2 → NoRing (drop begin line)
 few-points zero t h = t .0 refl
 few-points (suc n) t h = let w = t .1 (λ z. omega arith) in one-point (w .0) (w .1) h

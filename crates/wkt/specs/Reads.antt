@@ -2,37 +2,31 @@
 use Prim.Native.Nat.{ℕ, suc, _+_, _*_, _≤_}
 use mathlib.Core.Path.{_≡_}
 use mathlib.Core.Bool.{cond}
-use mathlib.Core.List.{List, _∷_, _++_, map}
+use mathlib.Core.List.{List, [], _∷_, _++_, map}
 use lib.Dec.{ltb}
 use lib.ListN.{length, take, drop, set}
 use lib.Ieee.{Float}
 use Rattle.algebra.specs.Rings.{lastOf}
 use Rattle.rules.specs.Limits.{mostPoints, mostCoordinates}
 use Rattle.rules.specs.Plane.{Pt}
-use Rattle.rules.specs.Text.{bytes, pointText, behind, InForm, Ends, mostBytes}
+use Rattle.rules.specs.Text.{bytes, pointText, behind, pointLine, Ends, mostBytes}
 use Rattle.rules.specs.Lines.{coordinate, coordinates}
 
 -- ---- around the points
-
--- what a line in form starts with
-abbrev pub opening : List ℕ
-opening = bytes "POLYGON (("
-
--- behind it stands the first point
-abbrev pub begin : ℕ
-begin = 10
 
 -- what stands between two points
 abbrev pub parting : List ℕ
 parting = bytes ", "
 
--- what a line in form ends with
+-- what a line with a ring ends with
 abbrev pub closing : List ℕ
 closing = bytes "))"
 
-pub record Opened (line : List ℕ) : Type 0 where
-  pub short : length line ≤ mostBytes
-  pub starts : line ≡ opening ++ drop begin line
+abbrev pub Starts : List ℕ → List ℕ → Type 0
+Starts word line = line ≡ word ++ drop (length word) line
+
+abbrev pub NoStart : List ℕ → List ℕ → Type 0
+NoStart word line = (m : List ℕ) → line ≡ word ++ m → ⊥
 
 unfoldable pub NoParting : List ℕ → ℕ → Type 0
 NoParting line at = (rest : List ℕ) → drop at line ≡ parting ++ rest → ⊥
@@ -58,8 +52,8 @@ stored coords n x y = cond (ltb n mostPoints) (set (set coords (2 * n) x) (2 * n
 unfoldable pub Held : ℕ → List Pt → List Float → Type 0
 Held n ps coords = (k : ℕ) → k ≤ n → k ≤ mostPoints → take (2 * k) coords ≡ coordinates (take k ps)
 
--- n points were passed: the first ends at `after`, and the last stands from `from` to `at`
-pub record Passed (line : List ℕ) (coords : List Float) (after from at n : ℕ) : Type 0 where
+-- from `begin` on n points were passed: the first ends at `after`, and the last stands from `from` to `at`
+pub record Passed (line : List ℕ) (begin : ℕ) (coords : List Float) (after from at n : ℕ) : Type 0 where
   pub p : Pt
   pub qs : List Pt
   pub text : drop begin line ≡ pointText p ++ (behind (map pointText qs) ++ drop at line)
@@ -73,9 +67,51 @@ pub record Passed (line : List ℕ) (coords : List Float) (after from at n : ℕ
   pub stands : (from ≤ at) × (at ≤ length line)
   pub few : n ≤ at
 
--- ---- the corners of a line in form, counted, and held where there is room for them
-pub record ReadAs (line : List ℕ) (count : ℕ) (coords : List Float) : Type 0 where
-  pub corners : List Pt
-  pub in-form : InForm line corners
-  pub counted : count ≡ length corners
-  pub held : count ≤ mostPoints → take (2 * count) coords ≡ coordinates corners
+-- ---- rings and lines
+
+-- the points of a ring with these corners, the first again, and the closing
+unfoldable pub ringRest : Pt → List Pt → List ℕ
+unfolding pointText behind
+ringRest c cs = pointText c ++ (behind (map pointText (cs ++ (c ∷ []))) ++ closing)
+
+unfoldable pub NoRing : List ℕ → Type 0
+NoRing rest = (c : Pt) (cs : List Pt) → rest ≡ ringRest c cs → ⊥
+
+-- the corners are counted, and held where there is room for them
+pub record Counted (c : Pt) (cs : List Pt) (count : ℕ) (coords : List Float) : Type 0 where
+  pub counted : count ≡ length (c ∷ cs)
+  pub held : count ≤ mostPoints → take (2 * count) coords ≡ coordinates (c ∷ cs)
+
+pub record RingRead (rest : List ℕ) (count : ℕ) (coords : List Float) : Type 0 where
+  pub c : Pt
+  pub cs : List Pt
+  pub text : rest ≡ ringRest c cs
+  pub known : Counted c cs count coords
+
+-- the line starts with a word and goes on with a ring, and is not too long
+pub record Outlined (word line : List ℕ) (c : Pt) (cs : List Pt) : Type 0 where
+  pub text : line ≡ word ++ ringRest c cs
+  pub short : length line ≤ mostBytes
+
+unfoldable pub NoOutline : List ℕ → List ℕ → Type 0
+NoOutline word line = (c : Pt) (cs : List Pt) → Outlined word line c cs → ⊥
+
+pub record OutlineRead (word line : List ℕ) (count : ℕ) (coords : List Float) : Type 0 where
+  pub c : Pt
+  pub cs : List Pt
+  pub outlined : Outlined word line c cs
+  pub known : Counted c cs count coords
+
+-- a POINT line that is not too long
+pub record Pointed (line : List ℕ) (p : Pt) : Type 0 where
+  pub text : line ≡ pointLine p
+  pub short : length line ≤ mostBytes
+
+unfoldable pub NoPointLine : List ℕ → Type 0
+NoPointLine line = (p : Pt) → Pointed line p → ⊥
+
+pub record PointRead (line : List ℕ) (x y : Float) : Type 0 where
+  pub p : Pt
+  pub pointed : Pointed line p
+  pub worth-x : x ≡ coordinate (p .x)
+  pub worth-y : y ≡ coordinate (p .y)

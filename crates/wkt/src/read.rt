@@ -1,4 +1,4 @@
-// Reading a POLYGON line, in one pass. Which lines are in form is the rules' `InForm`.
+// Reading lines, each in one pass: a word and a ring, such as a POLYGON line, and a POINT line. Which lines are in form is said in `rules`.
 use decimals::read::byte;
 use decimals::read::read_number;
 use entries::Answer;
@@ -13,16 +13,12 @@ ghost use mathlib.Core.List.{_++_};
 ghost use Prim.Native.Nat.{_+_, _-_, _≤_};
 ghost use lib.ListN.{length, take, drop};
 ghost use Rattle.rules.specs.Limits.{mostCoordinates};
-ghost use Rattle.rules.specs.Text.{NotInForm};
 ghost use Rattle.rules.specs.Lines.{Reads};
-ghost use Rattle.wkt.specs.Reads.{begin, parting, closing, Opened, PointAt, NoPoint, NoParting, stored, Passed, ReadAs};
+ghost use Rattle.wkt.specs.Reads.{parting, Starts, NoStart, PointAt, NoPoint, NoParting, stored, Passed, NoRing, RingRead, NoOutline, OutlineRead, NoPointLine, PointRead};
 ghost use Rattle.wkt.specs.Promise.{readingOf};
 
 // Of a line, without the newline.
 pub const MOST_BYTES: usize = 8192;
-
-// Where the first point stands, behind `POLYGON ((`.
-const BEGIN: usize = 10;
 
 // A point up to `end`, and its coordinates.
 pub struct Spot {
@@ -94,18 +90,16 @@ fn put(coords: &mut [f32; MOST_COORDINATES], n: usize, x: f32, y: f32)
     coords[2 * n + 1] = y;
 }
 
-// Whether the line is not too long and starts as it must.
-fn opens(line: &[u8]) -> bool
-    ensures { λ r. ⌜ (r ≡ true → Opened (now (line .entry))) ⌝ }
-    ensures { λ r. ⌜ (r ≡ false → NotInForm (now (line .entry))) ⌝ }
+// Whether the line starts with a word.
+fn starts(line: &[u8], word: &[u8]) -> bool
+    ensures { λ r. ⌜ (r ≡ true → Starts (now (word .entry)) (now (line .entry))) ⌝ }
+    ensures { λ r. ⌜ (r ≡ false → NoStart (now (word .entry)) (now (line .entry))) ⌝ }
 {
-    if MOST_BYTES < line.len() {
+    let n = word.len();
+    if line.len() < n {
         return false;
     }
-    if line.len() < BEGIN {
-        return false;
-    }
-    check::same(&line[..BEGIN], b"POLYGON ((")
+    check::same(&line[..n], word)
 }
 
 // Whether a comma and a space stand at a place.
@@ -119,13 +113,13 @@ fn goes_on(line: &[u8], at: usize) -> bool
     byte(line, at + 1) == b' '
 }
 
-// Whether the line ends with two parentheses at a place.
-fn closes(line: &[u8], at: usize) -> bool
+// Whether the line ends with a word that begins at a place.
+fn ends(line: &[u8], at: usize, word: &[u8]) -> bool
     requires { ⌜ at ≤ length (now line) ⌝ }
-    ensures { λ r. ⌜ (r ≡ true → drop at (now (line .entry)) ≡ closing) ⌝ }
-    ensures { λ r. ⌜ (r ≡ false → drop at (now (line .entry)) ≢ closing) ⌝ }
+    ensures { λ r. ⌜ (r ≡ true → drop at (now (line .entry)) ≡ now (word .entry)) ⌝ }
+    ensures { λ r. ⌜ (r ≡ false → drop at (now (line .entry)) ≢ now (word .entry)) ⌝ }
 {
-    check::same(&line[at..], b"))")
+    check::same(&line[at..], word)
 }
 
 // Whether the same bytes stand from a to b and from c to d.
@@ -137,19 +131,19 @@ fn repeats(line: &[u8], a: usize, b: usize, c: usize, d: usize) -> bool
     check::same(&line[a..b], &line[c..d])
 }
 
-// Reads the points that stand behind each other, and their coordinates as far as there is room.
-fn read_points(line: &[u8], coords: &mut [f32; MOST_COORDINATES]) -> Points
+// Reads the points that stand behind each other from a place on, and their coordinates as far as there is room.
+fn read_points(line: &[u8], begin: usize, coords: &mut [f32; MOST_COORDINATES]) -> Points
     requires { ⌜ (begin ≤ length (now line)) × (length (now coords) ≡ mostCoordinates) ⌝ }
-    ensures { λ r. ⌜ (r .count ≡ 0 → NotInForm (now (line .entry))) ⌝ }
-    ensures { λ r. ⌜ (r .count ≢ 0 → Passed (now (line .entry)) (now (coords .exit)) (r .after) (r .from) (r .end) (r .count) × NoParting (now (line .entry)) (r .end)) ⌝ }
+    ensures { λ r. ⌜ (r .count ≡ 0 → NoRing (drop begin (now (line .entry)))) ⌝ }
+    ensures { λ r. ⌜ (r .count ≢ 0 → Passed (now (line .entry)) begin (now (coords .exit)) (r .after) (r .from) (r .end) (r .count) × NoParting (now (line .entry)) (r .end)) ⌝ }
 {
-    let first = read_point(line, BEGIN);
+    let first = read_point(line, begin);
     if !first.ok {
         return no_points();
     }
     put(coords, 0, first.x, first.y);
     let after = first.end;
-    let mut from = BEGIN;
+    let mut from = begin;
     let mut end = after;
     let mut count = 1;
     while goes_on(line, end) {
@@ -170,27 +164,40 @@ fn read_points(line: &[u8], coords: &mut [f32; MOST_COORDINATES]) -> Points
     }
 }
 
-// Reads the corners as far as there is room, and counts them: 0 where the line is not in form. The closing point is compared with the first as
-// both are written, so at any length of their numbers.
-fn read_into(line: &[u8], coords: &mut [f32; MOST_COORDINATES]) -> usize
-    requires { ⌜ length (now coords) ≡ mostCoordinates ⌝ }
-    ensures { λ r. ⌜ (r ≡ 0 → NotInForm (now (line .entry))) ⌝ }
-    ensures { λ r. ⌜ (r ≢ 0 → ReadAs (now (line .entry)) r (now (coords .exit))) ⌝ }
+// Reads the corners of the ring from a place to the end of the line, as far as there is room, and counts them: 0 where there is no ring. The
+// closing point is compared with the first as both are written, so at any length of their numbers.
+fn read_ring(line: &[u8], begin: usize, coords: &mut [f32; MOST_COORDINATES]) -> usize
+    requires { ⌜ (begin ≤ length (now line)) × (length (now coords) ≡ mostCoordinates) ⌝ }
+    ensures { λ r. ⌜ (r ≡ 0 → NoRing (drop begin (now (line .entry)))) ⌝ }
+    ensures { λ r. ⌜ (r ≢ 0 → RingRead (drop begin (now (line .entry))) r (now (coords .exit))) ⌝ }
 {
-    if !opens(line) {
-        return 0;
-    }
-    let points = read_points(line, coords);
+    let points = read_points(line, begin, coords);
     if points.count < 2 {
         return 0;
     }
-    if !closes(line, points.end) {
+    if !ends(line, points.end, b"))") {
         return 0;
     }
-    if !repeats(line, BEGIN, points.after, points.from, points.end) {
+    if !repeats(line, begin, points.after, points.from, points.end) {
         return 0;
     }
     points.count - 1
+}
+
+// Reads the corners of a line that starts with a word, such as `POLYGON ((`, and goes on with a ring to its end, as far as there is room, and
+// counts them: 0 where the line is not such a one, or too long.
+pub fn read_outline(line: &[u8], word: &[u8], coords: &mut [f32; MOST_COORDINATES]) -> usize
+    requires { ⌜ length (now coords) ≡ mostCoordinates ⌝ }
+    ensures { λ r. ⌜ (r ≡ 0 → NoOutline (now (word .entry)) (now (line .entry))) ⌝ }
+    ensures { λ r. ⌜ (r ≢ 0 → OutlineRead (now (word .entry)) (now (line .entry)) r (now (coords .exit))) ⌝ }
+{
+    if MOST_BYTES < line.len() {
+        return 0;
+    }
+    if !starts(line, word) {
+        return 0;
+    }
+    read_ring(line, word.len(), coords)
 }
 
 // Reads the corners of a POLYGON line as coordinates: 11 where it is not in form, 3 where there are too many, and 6 where too little is lent.
@@ -198,7 +205,7 @@ pub fn read_polygon(line: &[u8], coords: &mut [f32]) -> Answer
     ensures { λ r. ⌜ Reads (now (line .entry)) (now (coords .entry)) (readingOf r (now (coords .exit))) ⌝ }
 {
     let mut own = no_floats();
-    let n = read_into(line, &mut own);
+    let n = read_outline(line, b"POLYGON ((", &mut own);
     if n == 0 {
         return Answer {
             number: 11,
@@ -222,4 +229,25 @@ pub fn read_polygon(line: &[u8], coords: &mut [f32]) -> Answer
         number: 0,
         count: n as u32,
     }
+}
+
+// Reads a POINT line.
+pub fn read_point_line(line: &[u8]) -> Spot
+    ensures { λ r. ⌜ (r .ok ≡ true → PointRead (now (line .entry)) (r .x) (r .y)) ⌝ }
+    ensures { λ r. ⌜ (r .ok ≡ false → NoPointLine (now (line .entry))) ⌝ }
+{
+    if MOST_BYTES < line.len() {
+        return no_spot();
+    }
+    if !starts(line, b"POINT (") {
+        return no_spot();
+    }
+    let p = read_point(line, 7);
+    if !p.ok {
+        return no_spot();
+    }
+    if !ends(line, p.end, b")") {
+        return no_spot();
+    }
+    p
 }

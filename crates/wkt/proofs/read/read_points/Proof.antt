@@ -15,10 +15,10 @@ use Rattle.wkt.proofs.read.read_points.Statement.{statement}
 use Rattle.wkt.proofs.read.read_points.Tie as tie
 
 abbrev Inv-loop : tie.InvT-loop
-Inv-loop line coords₀ after from₀ end₀ count₀ coords from end count = Passed line coords after from end count
+Inv-loop line begin coords₀ after from₀ end₀ count₀ coords from end count = Passed line begin coords after from end count
 
 abbrev μ-loop : tie.MeasureT-loop
-μ-loop line coords₀ after from₀ end₀ count₀ coords from end count = length line - end
+μ-loop line begin coords₀ after from₀ end₀ count₀ coords from end count = length line - end
 
 -- before the loop: where the first point was read, and the entry of the function
 abbrev first : tie.After-struct-known Inv-loop μ-loop → tie.After-read-point Inv-loop μ-loop
@@ -51,7 +51,7 @@ more :
     (c : tie.Else3 Inv-loop μ-loop)
     → let r = next (c .before) .read-point2 .result in
     let l = loop (next (c .before) .before) in
-    Passed (now (entry l .args .line)) (stored (l .loop .coords) (l .loop .count) (r .x) (r .y)) (first (first-put (l .before) .before) .read-point .result .end) (l .loop .end + 2) (r .end) (l .loop .count + 1)
+    Passed (now (entry l .args .line)) (entry l .args .begin) (stored (l .loop .coords) (l .loop .count) (r .x) (r .y)) (first (first-put (l .before) .before) .read-point .result .end) (l .loop .end + 2) (r .end) (l .loop .count + 1)
 more c =
     let n = next (c .before) in
     passed-more (loop (n .before) .loop .inv) (parts (n .before)) (n .read-point2 .ensures .0 (not-false _ (c .if3 .left)))
@@ -65,7 +65,7 @@ no-points-requires c κs = search needs
 returns : tie.Need-returns Inv-loop μ-loop
 returns c =
     let missing = c .before in
-    none (c .no-points .ensures) (no-first-point _ (first (missing .before) .read-point .ensures .1 (not-true _ (missing .if1 .taken))))
+    none (c .no-points .ensures) (no-first-point _ _ (first (missing .before) .read-point .ensures .1 (not-true _ (missing .if1 .taken))))
 
 put-requires : tie.Need-put-requires Inv-loop μ-loop
 put-requires c κs = search needs
@@ -75,7 +75,7 @@ loop-holds c =
     let found = first-put c in
     let f = first (found .before) in
     let s = start f in
-    passed-as (c .put .ensures) (passed-first _ (now (s .args .coords)) _ _ _ (s .pre .0) (s .pre .1) (f .read-point .ensures .0 (not-false _ (found .if1 .left))))
+    passed-as (c .put .ensures) (passed-first _ (now (s .args .coords)) _ _ _ _ (s .pre .0) (s .pre .1) (f .read-point .ensures .0 (not-false _ (found .if1 .left))))
 
 goes-on-requires : tie.Need-goes-on-requires Inv-loop μ-loop
 goes-on-requires c κs = search needs

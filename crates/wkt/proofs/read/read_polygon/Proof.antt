@@ -3,22 +3,24 @@ use native.Mathlib.Omega.{arith}
 use mathlib.Core.Path.{sym}
 use borrow.Author.Needs.{needs}
 use denote.Ref.{now}
-use Rattle.wkt.specs.Reads.{ReadAs}
+use Rattle.rules.specs.Text.{bytes}
+use Rattle.wkt.specs.Reads.{OutlineRead}
 use Rattle.rules.proofs.LineAnswers.{reads-not}
+use Rattle.wkt.proofs.Forms.{no-polygon}
 use Rattle.wkt.proofs.ReadEntry.{too-many, held-length, own-holds, too-little, answered}
 use Rattle.wkt.proofs.read.read_polygon.Statement.{statement}
 use Rattle.wkt.proofs.read.read_polygon.Tie as tie
 
 -- where the line was read, and the entry of the function
-abbrev known : tie.After-read-into → tie.After-slice-known
-known c = c .before .before .before
+abbrev known : tie.After-read-outline → tie.After-slice-known
+known c = c .before .before .before .before
 
-abbrev start : tie.After-read-into → tie.Start
+abbrev start : tie.After-read-outline → tie.Start
 start c = known c .before .before
 
 -- the line is in form
-was-read : (c : tie.Else1) → ReadAs (now (start (c .before) .args .line)) (c .before .read-into .result) (c .before .read-into .last .1 .0)
-was-read c = c .before .read-into .ensures .1 (c .if1 .left)
+was-read : (c : tie.Else1) → OutlineRead (bytes "POLYGON ((") (now (start (c .before) .args .line)) (c .before .read-outline .result) (c .before .read-outline .last .1 .1 .0)
+was-read c = c .before .read-outline .ensures .1 (c .if1 .left)
 
 -- where it has few enough corners, where the line was read, and where there is room for them
 abbrev few : tie.Else3 → tie.Else2
@@ -33,11 +35,14 @@ room c = c .before .before .before
 no-floats-requires : tie.Need-no-floats-requires
 no-floats-requires c κs = search needs
 
-read-into-requires : tie.Need-read-into-requires
-read-into-requires c κs = search needs
+slice-aggregate-read-outline : tie.Need-slice-aggregate-read-outline
+slice-aggregate-read-outline c = search needs
+
+read-outline-requires : tie.Need-read-outline-requires
+read-outline-requires c κs = search needs
 
 returns : tie.Need-returns
-returns c = reads-not _ _ (c .before .read-into .ensures .0 (c .if1 .taken))
+returns c = reads-not _ _ (no-polygon _ (c .before .read-outline .ensures .0 (c .if1 .taken)))
 
 returns-2 : tie.Need-returns-2
 returns-2 c = too-many (was-read (c .before)) _ (c .if2 .taken)
@@ -52,16 +57,16 @@ mul-own : tie.Need-mul-own
 mul-own c = search needs
 
 array-share-prefix-own : tie.Need-array-share-prefix-own
-array-share-prefix-own c = own-holds (was-read (passed c)) (few c .if2 .left)
+array-share-prefix-own c = own-holds (was-read (passed c) .known) (few c .if2 .left)
 
 slice-aggregate-copy-floats : tie.Need-slice-aggregate-copy-floats
-slice-aggregate-copy-floats c = let d = c .before in sym (held-length (was-read (passed d)) (few d .if2 .left))
+slice-aggregate-copy-floats c = let d = c .before in sym (held-length (was-read (passed d) .known) (few d .if2 .left))
 
 copy-floats-requires : tie.Need-copy-floats-requires
-copy-floats-requires c κs = let d = c .before .before in omega (arith, held-length (was-read (passed d)) (few d .if2 .left), d .if3 .left)
+copy-floats-requires c κs = let d = c .before .before in omega (arith, held-length (was-read (passed d) .known) (few d .if2 .left), d .if3 .left)
 
-cast-t15 : tie.Need-cast-t15
-cast-t15 c = search needs
+cast-t18 : tie.Need-cast-t18
+cast-t18 c = search needs
 
 same-length : tie.Need-same-length
 same-length c = search needs
@@ -77,7 +82,8 @@ read-polygon-spec =
     tie.close
     (tie.spec
     no-floats-requires
-    read-into-requires
+    slice-aggregate-read-outline
+    read-outline-requires
     returns
     returns-2
     mul-if3
@@ -86,6 +92,6 @@ read-polygon-spec =
     array-share-prefix-own
     slice-aggregate-copy-floats
     copy-floats-requires
-    cast-t15
+    cast-t18
     same-length
     returns-4)

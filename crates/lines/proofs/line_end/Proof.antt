@@ -2,9 +2,9 @@
 use Prim.Native.Nat.{_-_}
 use native.Mathlib.Omega.{arith}
 use lib.ListN.{length}
-use Rattle.fill_line.proofs.FirstLine.{Passed, passed-none, passed-more, at-newline, at-end}
-use Rattle.fill_line.proofs.line_end.Statement.{statement}
-use Rattle.fill_line.proofs.line_end.Tie as tie
+use Rattle.lines.proofs.FirstLine.{Passed, passed-none, passed-more, at-newline, at-end}
+use Rattle.lines.proofs.line_end.Statement.{statement}
+use Rattle.lines.proofs.line_end.Tie as tie
 
 abbrev Inv-loop : tie.InvT-loop
 Inv-loop bytes i₀ i = Passed bytes i
