@@ -149,7 +149,7 @@ fn common_divisor(a: i32, b: i32) -> i32 {
 }
 
 /// A point near the middle, a corner, or a point on the line of an edge.
-fn random_spot(r: &mut Random, outline: &Outline) -> (i32, i32) {
+pub fn random_spot(r: &mut Random, outline: &Outline) -> (i32, i32) {
     match r.below(4) {
         0 | 1 if outline.is_empty() => (r.within(-12, 12), r.within(-12, 12)),
         0 => outline[r.below(outline.len())],

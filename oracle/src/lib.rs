@@ -10,14 +10,17 @@ pub mod checks;
 pub mod clouds;
 pub mod cutter;
 pub mod expected;
+pub mod handing;
 pub mod hull;
 pub mod inputs;
 pub mod lent;
 pub mod lines;
+pub mod logs;
 pub mod math;
 #[cfg(feature = "linked")]
 pub mod ours;
 pub mod plane;
+pub mod playback;
 pub mod random;
 pub mod records;
 pub mod shapes;

@@ -1,7 +1,7 @@
 //! Lines for the comparison: outlines as text, and damaged ones.
 use crate::inputs::{about, random_outline};
 use crate::random::Random;
-use crate::shapes::round_the_grid;
+use crate::shapes::{round_the_grid, Outline};
 use crate::text::polygon;
 
 /// A line whose first and last point have so many digits.
@@ -45,24 +45,34 @@ pub fn fixed() -> Vec<Vec<u8>> {
 /// Those that a line has, and some others.
 const BYTES: &[u8] = b"POLYGON(), -0123456789\t\r+.";
 
-/// A line, most often in form.
-pub fn random(r: &mut Random) -> Vec<u8> {
-    let mut outline = random_outline(r);
+/// Some of these bytes put in, or put in place of others, or others taken out.
+pub fn damage(r: &mut Random, line: &mut Vec<u8>, bytes: &[u8]) {
+    for _ in 0..1 + r.below(3) {
+        let byte = bytes[r.below(bytes.len())];
+        let at = r.below(line.len());
+        match r.below(3) {
+            0 => line[at] = byte,
+            1 => line.insert(at, byte),
+            _ => drop(line.remove(at)),
+        }
+    }
+}
+
+/// At times one corner at the end of the grid, or beyond it.
+pub fn at_the_end(r: &mut Random, outline: &mut Outline) {
     if r.below(8) == 0 && !outline.is_empty() {
         let at = r.below(outline.len());
         outline[at].0 = [1024, -1024, 1025, -1025, i32::MAX, i32::MIN][r.below(6)];
     }
+}
+
+/// A line, most often in form.
+pub fn random(r: &mut Random) -> Vec<u8> {
+    let mut outline = random_outline(r);
+    at_the_end(r, &mut outline);
     let mut line = polygon(&outline).into_bytes();
     if r.below(3) == 0 {
-        for _ in 0..1 + r.below(3) {
-            let byte = BYTES[r.below(BYTES.len())];
-            let at = r.below(line.len());
-            match r.below(3) {
-                0 => line[at] = byte,
-                1 => line.insert(at, byte),
-                _ => drop(line.remove(at)),
-            }
-        }
+        damage(r, &mut line, BYTES);
     }
     line.retain(|&b| b != b'\n');
     line

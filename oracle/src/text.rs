@@ -14,22 +14,44 @@ fn number(text: &str) -> Option<&str> {
     canonical.then_some(text)
 }
 
-/// The corners of a POLYGON line as written, where it is in form.
-pub fn corners(line: &[u8]) -> Option<Vec<(&str, &str)>> {
+/// The two numbers of a point.
+fn pair(text: &str) -> Option<(&str, &str)> {
+    let (x, y) = text.split_once(' ')?;
+    Some((number(x)?, number(y)?))
+}
+
+/// What stands between these in a line that is not too long.
+fn between<'a>(line: &'a [u8], before: &str, after: &str) -> Option<&'a str> {
     if line.len() > 8192 {
         return None;
     }
-    let ring = std::str::from_utf8(line).ok()?.strip_prefix("POLYGON ((")?.strip_suffix("))")?;
-    let mut points = Vec::new();
-    for text in ring.split(", ") {
-        let (x, y) = text.split_once(' ')?;
-        points.push((number(x)?, number(y)?));
-    }
+    std::str::from_utf8(line).ok()?.strip_prefix(before)?.strip_suffix(after)
+}
+
+/// The points of a ring but the last, which must be the first again.
+fn closed(ring: &str) -> Option<Vec<(&str, &str)>> {
+    let mut points = ring.split(", ").map(pair).collect::<Option<Vec<_>>>()?;
     let closing = points.pop()?;
     (points.first() == Some(&closing)).then_some(points)
 }
 
-fn whole(text: &str) -> f32 {
+/// The corners of a POLYGON line as written, where it is in form.
+pub fn corners(line: &[u8]) -> Option<Vec<(&str, &str)>> {
+    closed(between(line, "POLYGON ((", "))")?)
+}
+
+/// The three corners of a TRIANGLE line as written, where it is in form.
+pub fn three_corners(line: &[u8]) -> Option<Vec<(&str, &str)>> {
+    closed(between(line, "TRIANGLE ((", "))")?).filter(|corners| corners.len() == 3)
+}
+
+/// The spot of a POINT line as written, where it is in form.
+pub fn spot(line: &[u8]) -> Option<(&str, &str)> {
+    pair(between(line, "POINT (", ")")?)
+}
+
+/// The number of a text, or where it is far off the grid another one that is off it.
+pub fn whole(text: &str) -> f32 {
     text.parse::<i32>().map_or(4096.0, |n| n as f32)
 }
 
@@ -41,6 +63,14 @@ fn ring(points: &[(i32, i32)]) -> String {
 
 pub fn polygon(points: &[(i32, i32)]) -> String {
     format!("POLYGON ({})", ring(points))
+}
+
+pub fn triangle(points: &[(i32, i32)]) -> String {
+    format!("TRIANGLE ({})", ring(points))
+}
+
+pub fn point((x, y): (i32, i32)) -> String {
+    format!("POINT ({x} {y})")
 }
 
 pub fn multipolygon(areas: &[Vec<(i32, i32)>]) -> String {
