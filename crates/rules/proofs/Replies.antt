@@ -17,17 +17,20 @@ use Rattle.rules.specs.Plane.{Pt}
 use Rattle.rules.specs.Refusals.{_gives_, firstRefusal}
 use Rattle.rules.specs.Entries.{unless, pointInPoly2d}
 use Rattle.rules.specs.Lines.{coordinate, coordinates, offCorners}
-use Rattle.rules.specs.Playback.{Event, polygon, triangle, point, Says, Means, in-form, not-in-form, AllMean, no-lines, line-and, InForce, nothingYet, outlineRefusal, Reply, number, told, reply, putting, sets, lastSet, changed, inForce, repliesBehind, replies, stepping, stepped, replyText, written}
+use Rattle.rules.specs.Playback.{Event, polygon, triangle, point, Says, Means, in-form, not-in-form, AllMean, no-lines, line-and}
+use Rattle.rules.specs.Playback.{InForce, nothingYet, outlineRefusal, Reply, number, told, reply, putting, sets, lastSet, changed, inForce, repliesBehind, replies, stepping, stepped, replyText, written}
 
 -- ---- what a line sets
 
--- a refused outline sets nothing
+-- a refused outline puts nothing in force
+pub not-put : (corners : List Pt) (convex : Bool) (n : ℕ) → outlineRefusal corners ≡ suc n → putting convex corners ≡ none
+unfolding putting
+not-put corners convex n h = ap (λ (k : ℕ). unless {R = Option InForce} k (λ m. none) (some (record { coords = coordinates corners; convex = convex }))) h
+
+-- so a refused line sets nothing
 pub refused-sets : (corners : List Pt) (n : ℕ) → outlineRefusal corners ≡ suc n → (sets (some (polygon corners)) ≡ none) × (sets (some (triangle corners)) ≡ none)
 unfolding sets
-refused-sets corners n h = (put false, put true)
-  where
-    put : (convex : Bool) → putting convex corners ≡ none
-    put convex = ap (λ (k : ℕ). unless {R = Option InForce} k (λ m. none) (some (record { coords = coordinates corners; convex = convex }))) h
+refused-sets corners n h = (not-put corners false n h, not-put corners true n h)
 
 -- and neither does a point, or a line that is not in form
 pub point-sets : (p : Pt) → sets (some (point p)) ≡ none

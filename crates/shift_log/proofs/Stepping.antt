@@ -78,10 +78,6 @@ module _ (corners : List Pt) where
     unfolding outlineRefusal cornerChecks
     refusal-none h = row-off 3 (offCorners corners gives 4 ∷ []) (le-ltb mostPoints (length corners) few) ∙ row-off 4 [] h ∙ no-rows
 
-  pub not-put : (convex : Bool) (n : ℕ) → outlineRefusal corners ≡ suc n → putting convex corners ≡ none
-  unfolding putting
-  not-put convex n h = rw h refl
-
   pub is-put : (convex : Bool) → outlineRefusal corners ≡ 0 → putting convex corners ≡ some (record { coords = coordinates corners; convex = convex })
   unfolding putting
   is-put convex h = rw h refl

@@ -16,6 +16,7 @@ use Rattle.rules.specs.Entries.{asking}
 use Rattle.rules.specs.Text.{bytes}
 use Rattle.rules.specs.Lines.{coordinates}
 use Rattle.rules.specs.Playback.{polygon, triangle, point, number, told, outlineRefusal, reply, sets}
+use Rattle.rules.proofs.Replies.{not-put}
 use Rattle.point_in_poly2d.specs.Verdicts.{testOf}
 use Rattle.wkt.specs.Reads.{NoOutline, OutlineRead, NoPointLine, PointRead}
 use Rattle.wkt.proofs.Corners.{off-grid-read}
@@ -25,7 +26,7 @@ use Rattle.shift_log.specs.declared.Reply.{Reply}
 use Rattle.shift_log.specs.declared.Reply.the-variants.{Number}
 use Rattle.shift_log.specs.Promise.{replyOf, StepPromise, PutPromise}
 use Rattle.shift_log.proofs.Meanings.{point-means, polygon-means, triangle-means, nothing-means}
-use Rattle.shift_log.proofs.Stepping.{asked-by, refusal-three, refusal-four, refusal-none, not-put, is-put, stayed, too-little, was-put}
+use Rattle.shift_log.proofs.Stepping.{asked-by, refusal-three, refusal-four, refusal-none, is-put, stayed, too-little, was-put}
 
 -- all stays as it was, and this is the reply
 abbrev pub Stays : Force → Outcome → Reply → Type 0
