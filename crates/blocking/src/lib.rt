@@ -1,4 +1,6 @@
 // Whether some point of an outline blocks an ear: eight points at a time, and only the eights that may have a point in the ear's box.
+#![tactic(auto)]
+
 pub mod flat;
 pub mod strips;
 
@@ -16,7 +18,7 @@ use strips::candidates;
 
 // Two sides of an ear's triangle p1, p, p3 as functions that are zero on the side: the turn of (x, y) with it is a x + b y - c. d is the
 // turn of the three points.
-#[derive(Drop)]
+#[derive(Clone, Copy)]
 pub struct Sides {
     pub a1: f32,
     pub b1: f32,

@@ -1,5 +1,7 @@
 // Document 01's cases and the runs beside them, printed for a person to read: each outline cut, the triangles merged, spots asked, and the
 // hulls of clouds.
+#![tactic(auto)]
+
 mod shapes;
 mod show;
 

@@ -1,4 +1,6 @@
 // The hull of a cloud: after the crate's src/transformation/convex_hull2.rs, in rounds.
+#![tactic(auto)]
+
 ghost use Rattle.std.specs.Prelude.{◌≡◌, false, ◌≤◌, length};
 ghost use Rattle.algebra.specs.Lists.{count_from};
 ghost use Rattle.rules.specs.Grid.{points_of};

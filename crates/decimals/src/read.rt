@@ -8,7 +8,7 @@ ghost use Rattle.decimals.specs.Reads.{DigitAt, NaturalAt, NoNatural, NumberAt, 
 use entries::wide_byte;
 
 // Digits up to `end`, and their value, 0 where there are none.
-#[derive(Drop)]
+#[derive(Clone, Copy)]
 pub struct Natural {
     pub ok: bool,
     pub end: usize,
@@ -16,7 +16,7 @@ pub struct Natural {
 }
 
 // A number up to `end`, and its value.
-#[derive(Drop)]
+#[derive(Clone, Copy)]
 pub struct Number {
     pub ok: bool,
     pub end: usize,

@@ -1,4 +1,6 @@
 // The cutter: after the crate's src/transformation/ear_clipping.rs.
+#![tactic(auto)]
+
 ghost use Rattle.std.specs.Prelude.{◌≡◌, true, false, ◌+◌, ◌-◌, ◌*◌, ◌≤◌, ◌<◌, length};
 ghost use Rattle.rules.specs.Grid.{points_of};
 ghost use Rattle.rules.specs.Limits.{most_points, most_indices};

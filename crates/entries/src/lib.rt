@@ -1,4 +1,6 @@
 // What every entry shares: document 01's limits, the form of an answer, room for the most that is accepted, and small steps on plain values.
+#![tactic(auto)]
+
 ghost use Rattle.std.specs.Prelude.{◌≡◌, ◌||◌, ◌<◌, length, replicate};
 ghost use Rattle.rules.specs.Limits.{most_coordinates, most_triangles, most_indices};
 
@@ -14,7 +16,7 @@ pub const MOST_INDICES: usize = 3 * MOST_TRIANGLES;
 
 // Document 01's number, and the count of triangles or pieces that are reported: 0 beside a refusal.
 #[repr(C)]
-#[derive(Drop)]
+#[derive(Clone, Copy)]
 pub struct Answer {
     pub number: u32,
     pub count: u32,

@@ -1,4 +1,6 @@
 // A ring of facets in one array: each facet's corner, marked, and behind it the points that see the facet.
+#![tactic(auto)]
+
 ghost use Rattle.std.specs.Prelude.{◌≡◌, false, not, List, [], ◌++◌, map, ◌+◌, ◌≤◌, ◌<◌, length, get_or, take, drop};
 ghost use Rattle.algebra.specs.Lists.{Each, any, count_from};
 ghost use Rattle.algebra.specs.Rings.{begun_at, first_of};

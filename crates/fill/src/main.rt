@@ -1,5 +1,7 @@
 // Reads the first line of standard input, an outline as a POLYGON line, and writes what fills it as a MULTIPOLYGON line, or the number of the
 // refusal alone on a line. Without words it is filled by merged areas, with the word `triangles` by the triangles of the cut.
+#![tactic(auto)]
+
 ghost use Rattle.std.specs.Prelude.{◌≤◌, ◌≡◌, length};
 
 use entries::{Answer, wide};
@@ -8,7 +10,7 @@ use input::more;
 use lines::line_end;
 use wkt::read::MOST_BYTES;
 
-#[derive(Drop)]
+#[derive(Clone, Copy)]
 enum Plan {
     Areas,
     Triangles,
@@ -39,7 +41,7 @@ fn line_room() -> [u8; MOST_INPUT]
     [0u8; MOST_INPUT]
 }
 
-#[derive(Drop)]
+#[derive(Clone, Copy)]
 struct Input {
     bytes: usize,
     failed: bool,

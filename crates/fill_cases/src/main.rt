@@ -1,5 +1,7 @@
 // Lines filled by both plans, printed for a person to read: the request's example, each refusal, and the longest lines. What is in form and
 // on the grid is also written back.
+#![tactic(auto)]
+
 mod build;
 mod show;
 

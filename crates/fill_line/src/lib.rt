@@ -1,4 +1,6 @@
 // What the program `fill` does with a line: the outline is read, cut, merged or not, and written.
+#![tactic(auto)]
+
 ghost use Rattle.std.specs.Prelude.{◌≡◌, ◌≤◌, length, take};
 ghost use Rattle.rules.specs.Entries.{triangles_for};
 ghost use Rattle.rules.specs.Limits.{most_points, most_coordinates, most_indices};

@@ -1,4 +1,6 @@
 // Document 01's grid: which coordinates are on it, the refusals of an outline's coordinates, and points read from a lent slice of them.
+#![tactic(auto)]
+
 pub mod area;
 pub mod outline;
 pub mod point;

@@ -5,7 +5,7 @@ ghost use Rattle.std.specs.Float.Ieee.{add, sub, mul, of_int};
 ghost use Rattle.rules.specs.Plane as Rules;
 ghost use Rattle.grid.specs.Points.{on_grid_pt, pt_of};
 
-#[derive(Drop)]
+#[derive(Clone, Copy)]
 pub struct Point {
     pub x: f32,
     pub y: f32,

@@ -6,7 +6,7 @@ ghost use Rattle.grid.specs.Points.{on_grid_pt, pt_of, orientation, is_ccw, is_c
 use crate::point::Point;
 
 // The orientation of a corner.
-#[derive(Drop)]
+#[derive(Clone, Copy)]
 pub enum Orientation {
     // Counter-clockwise: a left turn.
     Ccw,

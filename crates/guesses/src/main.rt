@@ -1,4 +1,6 @@
 // Counts the radicands from 1 to 2^23 whose root is guessed, and those whose root is worked out digit by digit.
+#![tactic(auto)]
+
 ghost use Rattle.std.specs.Prelude.{◌≤◌};
 
 use root::is_guessed;

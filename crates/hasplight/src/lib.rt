@@ -1,5 +1,7 @@
 // Hasplight for those who link it: the entries on numbers and byte slices. Each f32, index or length stands as four bytes, low byte
 // first; bytes past the last whole four are neither read nor written.
+#![tactic(auto)]
+
 pub mod hull;
 mod room;
 pub mod text;
@@ -17,7 +19,7 @@ use words::{read_floats, read_words, write_words};
 
 // The number of a refusal, and 0 for outside or refused, 1 for inside, 2 for border.
 #[repr(C)]
-#[derive(Drop)]
+#[derive(Clone, Copy)]
 pub struct Verdict {
     pub number: u32,
     pub answer: u32,

@@ -1,4 +1,6 @@
 // The merger: after the crate's src/transformation/hertel_mehlhorn.rs.
+#![tactic(auto)]
+
 ghost use Rattle.std.specs.Prelude.{◌≡◌, ◌/◌, ◌%◌, ◌≤◌, length};
 ghost use Rattle.rules.specs.Limits.{most_points, most_triangles, most_indices};
 ghost use Rattle.rules.specs.Grid.{points_of};

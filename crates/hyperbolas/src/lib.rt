@@ -4,12 +4,14 @@
 // whole number, which its lowest bits hold.
 // A row meets the curve at three places of its stretch. Nothing but speed rests on its numbers, since a guess is tested.
 // No n has a row below 32. With row 0 the compiler's table begins at 0 and holds every number of seven bits, so it is read without a branch.
+#![tactic(auto)]
+
 ghost use Rattle.std.specs.Prelude.{T};
 ghost use Rattle.std.specs.Float.Ieee.{neg};
 ghost use Rattle.std.specs.Float.Ieee.Positive.{positive};
 
 // level, fall and ahead
-#[derive(Drop)]
+#[derive(Clone, Copy)]
 pub struct Hyperbola(pub f64, pub f64, pub f64);
 
 pub fn hyperbola_at(i: u64) -> Hyperbola

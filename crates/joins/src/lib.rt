@@ -1,4 +1,6 @@
 // Piece A of a merge, joined with later pieces until it is finished. Its places stand in a queue: each is looked at in turn, and only again behind A's next join.
+#![tactic(auto)]
+
 pub mod looks;
 pub mod ring;
 
@@ -17,7 +19,7 @@ use pieces::take_out;
 use ring::{begin, put_between};
 
 // A when it is finished: the place of its corner 0, its number of corners, and how many pieces there then are.
-#[derive(Drop)]
+#[derive(Clone, Copy)]
 pub struct Grown {
     pub start: usize,
     pub len: usize,

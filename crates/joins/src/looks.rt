@@ -13,7 +13,7 @@ use grid::point_in_triangle::corner_direction;
 use pieces::{Mate, find_mate};
 
 // No mate, a mate that A may not be joined with, or a join: with which piece, and the corner that it brings.
-#[derive(Drop)]
+#[derive(Clone, Copy)]
 pub enum Look {
     Lone,
     Refused,

@@ -1,4 +1,6 @@
 // Bytes as lines: where a line ends, and what is carried of one that has not ended yet.
+#![tactic(auto)]
+
 ghost use Rattle.std.specs.Prelude.{◌≡◌, ◌++◌, ◌≤◌, length, take};
 ghost use Rattle.rules.specs.Text.{first_line};
 

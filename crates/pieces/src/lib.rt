@@ -1,4 +1,6 @@
 // The later pieces of a merge. Each still is a given triangle, kept as its three edges; and each point has a word that shows in which eights of pieces it stands.
+#![tactic(auto)]
+
 ghost use Rattle.std.specs.Prelude.{◌≡◌, false, ℕ, ◌+◌, ◌*◌, ◌/◌, ◌%◌, ◌^◌, ◌≤◌, ◌<◌, min, max, length, get_or};
 ghost use Rattle.std.specs.Int.Bits.{bit_and};
 ghost use Rattle.std.specs.Int.Count.{count_trailing_zeros};
@@ -8,7 +10,7 @@ ghost use Rattle.rules.specs.Limits.{most_indices};
 ghost use Rattle.pieces.specs.Pieces.{start_of, edge_of, put_piece, moved, show, shows, later, Low, Lie, Behind, Mated};
 
 // The later piece that holds an edge, and its corner that is not on it.
-#[derive(Drop)]
+#[derive(Clone, Copy)]
 pub enum Mate {
     Nobody,
     Is { piece: usize, third: usize },

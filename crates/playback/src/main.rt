@@ -1,5 +1,7 @@
 // Plays back a shift log: reads it from standard input, any number of lines, and writes one line for each: the number of its refusal, 0 for an
 // outline that is set, or where a point is. What has been answered is written before more is waited for.
+#![tactic(auto)]
+
 ghost use Rattle.std.specs.Prelude.{suc, ◌*◌, ◌≤◌, ◌≡◌, length};
 ghost use Rattle.rules.specs.Limits.{most_coordinates};
 ghost use Rattle.rules.specs.Text.{most_bytes};
@@ -35,7 +37,7 @@ fn text_room() -> [u8; MOST_TEXT]
 }
 
 // How far playing has come.
-#[derive(Drop)]
+#[derive(Clone, Copy)]
 enum State {
     // The log goes on.
     Open,

@@ -1,4 +1,6 @@
 // The point tests: after the crate's src/utils/point_in_poly2d.rs.
+#![tactic(auto)]
+
 pub mod bytes;
 
 ghost use Rattle.std.specs.Prelude.{◌≡◌, true, false, cond, ◌&&◌, [], ◌∷◌, ◌<◌, length};
@@ -17,7 +19,7 @@ use grid::outline::outline_refusal;
 use grid::point::Point;
 
 // What a point test answers.
-#[derive(Drop)]
+#[derive(Clone, Copy)]
 pub enum Verdict {
     // Refused, with document 01's number.
     Refused(u32),
@@ -75,7 +77,7 @@ fn differ(s: bool, t: bool) -> bool
 
 // What the edges that were passed have shown: whether an odd number of them is crossed and whether the spot is on one, or, for the convex
 // test, whether it is left of some and right of some.
-#[derive(Drop)]
+#[derive(Clone, Copy)]
 struct Seen {
     odd: bool,
     touched: bool,

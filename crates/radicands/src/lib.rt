@@ -1,4 +1,6 @@
 // The root alone, exported for those who compare it with another for every radicand.
+#![tactic(auto)]
+
 ghost use Rattle.std.specs.Prelude.{◌≡◌, cond, ◌^◌, ◌≤◌, ltb};
 ghost use Rattle.rules.specs.Root.{root as root_of};
 

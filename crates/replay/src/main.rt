@@ -1,4 +1,6 @@
 // Replays the records on standard input, any number of them: on each input an exported entry must give back what its record says.
+#![tactic(auto)]
+
 mod record;
 
 ghost use Rattle.std.specs.Prelude.{◌≡◌, ◌+◌, ◌^◌, ◌≤◌, length};
@@ -6,7 +8,7 @@ ghost use Rattle.replay.specs.Small.{Small};
 
 use input::more;
 
-#[derive(Drop)]
+#[derive(Clone, Copy)]
 enum End {
     Open,
     Whole,
@@ -16,7 +18,7 @@ enum End {
 }
 
 // What came of some records.
-#[derive(Drop)]
+#[derive(Clone, Copy)]
 struct Tally {
     records: usize,
     inputs: usize,

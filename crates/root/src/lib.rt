@@ -1,4 +1,6 @@
 // The rounded square root of a whole number, and the pointiness of a corner: what the crate takes from `normalize`.
+#![tactic(auto)]
+
 mod nearest_root;
 
 ghost use Rattle.std.specs.Prelude.{◌≡◌, ◌*◌, ◌^◌, ◌<◌, ◌≤◌, true};

@@ -32,7 +32,7 @@ fn guess(n: u64) -> u64
     f64::to_bits(x) % 33554432
 }
 
-#[derive(Drop)]
+#[derive(Clone, Copy)]
 pub struct Tried {
     pub root: u64,
     pub passed: bool,

@@ -44,7 +44,7 @@ cuts (suc k) ps ring ts h = go (λ c. cuts k ps (without c.at ring)) (choose ps 
         subst (Cuts ps (suc k) ring) q (one_more e (rec c us i))
 
 -- the number of triangles
-pub cuts_length : {k : ℕ} {ps : List Pt} {ring : List ℕ} {ts : List (Corner ℕ)} → Cuts ps k ring ts → length ts ≡ k + 1
+pub cuts_length : {ps : List Pt} {k : ℕ} {ring : List ℕ} {ts : List (Corner ℕ)} → Cuts ps k ring ts → length ts ≡ k + 1
 cuts_length (three e) = refl
 cuts_length (one_more {k} e r) = omega (arith, cuts_length r)
 

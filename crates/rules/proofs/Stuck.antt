@@ -61,7 +61,7 @@ module _ (ps : List Pt) where
 -- ---- from a stuck cut to the ring
 
 module _ (ps : List Pt) where
-  met_after : {ring r : List ℕ} {c : Corner ℕ} {f : Float} → choose ps nothing (corners ring) ≡ best c f → Met ps (without c.at ring) r → Met ps ring r
+  met_after : {ring : List ℕ} {c : Corner ℕ} {r : List ℕ} {f : Float} → choose ps nothing (corners ring) ≡ best c f → Met ps (without c.at ring) r → Met ps ring r
   met_after e at_first = one_less at_first e
   met_after e (one_less m i) = one_less (met_after e m) i
 

@@ -1,4 +1,6 @@
 // A shift log, line by line (request M-107): which outline is in force, and what a line is answered.
+#![tactic(auto)]
+
 pub mod play;
 pub mod replies;
 
@@ -17,14 +19,14 @@ use words::copy_floats;
 
 // The outline in force: how many corners it has, whose coordinates stand at the front of what is lent, and whether the convex test answers for
 // it. Before any outline there are no corners, and the outline test answers.
-#[derive(Drop)]
+#[derive(Clone, Copy)]
 pub struct Force {
     pub corners: usize,
     pub convex: bool,
 }
 
 // What a line is answered.
-#[derive(Drop)]
+#[derive(Clone, Copy)]
 pub enum Reply {
     // The number of its refusal, or 0 where it sets an outline.
     Number(u32),
@@ -34,7 +36,7 @@ pub enum Reply {
 }
 
 // What a line is answered, and what is in force then.
-#[derive(Drop)]
+#[derive(Clone, Copy)]
 pub struct Outcome {
     pub reply: Reply,
     pub force: Force,

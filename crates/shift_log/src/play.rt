@@ -15,7 +15,7 @@ pub const MOST_CARRIED: usize = 8193;
 
 // What is carried from read to read beside lent memory: how many bytes of a line that has not ended, and what is in force; and where the text
 // ends that was written last.
-#[derive(Drop)]
+#[derive(Clone, Copy)]
 pub struct Log {
     pub held: usize,
     pub force: Force,

@@ -1,4 +1,6 @@
 // Outlines that pass a point twice (request M-103): each is cut and merged, and its triangles and areas are held against it at every grid point around.
+#![tactic(auto)]
+
 mod rings;
 mod runs;
 

@@ -5,7 +5,7 @@ use entries::{MOST_COORDINATES, MOST_INDICES, MOST_POINTS, no_floats, wide};
 use point_in_poly2d::{Verdict, point_in_poly2d};
 
 // What the outline test says of a spot.
-#[derive(Drop)]
+#[derive(Clone, Copy)]
 pub struct Said {
     pub inside: bool,
     pub border: bool,
@@ -13,7 +13,7 @@ pub struct Said {
 
 // What the rings of a list come to: whether an odd number of them has a spot inside, whether one has it on its border, their doubled areas' sum,
 // and how many are clockwise.
-#[derive(Drop)]
+#[derive(Clone, Copy)]
 pub struct Sum {
     pub odd: bool,
     pub border: bool,

@@ -23,7 +23,7 @@ fn words(list: &[u32], n: usize) -> &[u32] {
 }
 
 // A spot, and the next one.
-#[derive(Drop)]
+#[derive(Clone, Copy)]
 struct Spot {
     x: f32,
     y: f32,
@@ -57,7 +57,7 @@ fn one_more(n: u32, test: bool) -> u32 {
 }
 
 // How many spots are inside an outline, and how many on its border.
-#[derive(Drop)]
+#[derive(Clone, Copy)]
 struct Spots {
     inside: u32,
     border: u32,
@@ -80,7 +80,7 @@ fn spots_of(coords: &[f32]) -> Spots {
 
 // At how many spots the outline and the rings of a list together say otherwise, and how many are on the border of a ring and not of the outline. Where no
 // ring says border, the outline does not, and is inside where an odd number of rings is.
-#[derive(Drop)]
+#[derive(Clone, Copy)]
 struct Compared {
     otherwise: u32,
     between: u32,

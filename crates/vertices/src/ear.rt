@@ -12,7 +12,7 @@ use grid::point_in_triangle::corner_direction;
 use winners::Ear;
 
 // The three corners of an ear: the one before, the corner, and the one after.
-#[derive(Drop)]
+#[derive(Clone, Copy)]
 pub struct Triangle {
     pub before: usize,
     pub at: usize,

@@ -1,5 +1,7 @@
 // The vertices of an outline that is cut: neighbours, which are active, the lengths of the edges, and the ears with the next one to cut. The
 // crate's `VertexInfo`, as arrays.
+#![tactic(auto)]
+
 pub mod ear;
 
 ghost use Rattle.std.specs.Prelude.{◌≡◌, true, false, ℕ, ◌<◌, ◌≤◌, length, set};

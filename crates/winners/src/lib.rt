@@ -1,5 +1,7 @@
 // The ear that is cut next: a tree of maxima over the corners. Node k has the children 2 k and 2 k + 1, and corner i is the leaf m + i, where m
 // is a power of two. A node holds the better of its children's ears, of equals the later, and its corner.
+#![tactic(auto)]
+
 ghost use Rattle.std.specs.Prelude.{◌≡◌, true, false, cond, ℕ, ◌+◌, ◌*◌, ◌-◌, ◌/◌, ◌<◌, ◌≤◌, length, get_or, replicate, set};
 ghost use Rattle.std.specs.Float.Ieee.{is_nan};
 ghost use Rattle.std.specs.Float.{nan};
@@ -9,21 +11,21 @@ ghost use Rattle.winners.specs.Keys.{Nobody, to_ear, from_ear, key_of, ear_in, P
 use entries::{narrow, place};
 
 // A corner is either no ear, or an ear that carries its pointiness.
-#[derive(Drop)]
+#[derive(Clone, Copy)]
 pub enum Ear {
     No,
     Pointed(f32),
 }
 
 // A corner with its ear, as it stands in the tree.
-#[derive(Drop)]
+#[derive(Clone, Copy)]
 pub struct Entry {
     pub key: f32,
     pub corner: u16,
 }
 
 // The corner of the ear that is chosen.
-#[derive(Drop)]
+#[derive(Clone, Copy)]
 pub enum Pick {
     Nothing,
     At(usize),

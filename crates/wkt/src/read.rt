@@ -13,7 +13,7 @@ use words::copy_floats;
 pub const MOST_BYTES: usize = 8192;
 
 // A point up to `end`, and its coordinates.
-#[derive(Drop)]
+#[derive(Clone, Copy)]
 pub struct Spot {
     pub ok: bool,
     pub end: usize,
@@ -22,7 +22,7 @@ pub struct Spot {
 }
 
 // The points of a line: how many, where the first ends, and from where to where the last stands. The count is 0 where a point is missing.
-#[derive(Drop)]
+#[derive(Clone, Copy)]
 pub struct Points {
     pub count: usize,
     pub after: usize,
