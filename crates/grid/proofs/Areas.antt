@@ -76,39 +76,39 @@ last_added : (ps : List Pt) (a b : Point) (sum : ℤ) → Adds ps sum (edge a b 
 unfolding Adds
 last_added ps a b sum k = sym (k ∙ rw (+ℤ_idr (cross (pt_of a) (pt_of b))))
 
--- the sum in 32 bits before point i: at most 2^21 for each edge that was passed
-pub record Summed (ps : List Pt) (a : Point) (sum i : ℕ) : Type 0 where
-  pub walk : Walk ps (Adds ps (to_z w32 sum)) a i
-  pub small : nat_abs (to_z w32 sum) + 2 ^ 21 ≤ 2 ^ 21 * i
+-- the sum before point i: at most 2^21 for each edge that was passed
+pub record Summed (ps : List Pt) (a : Point) (sum : ℤ) (i : ℕ) : Type 0 where
+  pub walk : Walk ps (Adds ps sum) a i
+  pub small : nat_abs sum + 2 ^ 21 ≤ 2 ^ 21 * i
   pub passed : i ≤ length ps
 
-pub summed_first : (ps : List Pt) (f : Point) → on_grid_pt f ≡ true → pt_of f ≡ point ps 0 → 0 < length ps → Summed ps f 0 1
+pub summed_first : (ps : List Pt) (f : Point) → on_grid_pt f ≡ true → pt_of f ≡ point ps 0 → 0 < length ps → Summed ps f (pos 0) 1
 summed_first ps f on e h = record { walk = walk_first ps (Adds ps (pos 0)) f on e h (none_added ps); small = lit≤ tt; passed = h }
 
--- one edge more, as the code adds it
-module _ (ps : List Pt) {a : Point} {sum i : ℕ} (s : Summed ps a sum i) (few : length ps ≤ most_points) (z : ℤ) (low : nat_abs z ≤ 2 ^ 21) where
+-- one edge more, as the code adds it in 32 bits
+module _ (ps : List Pt) {a : Point} {sum : ℤ} {i : ℕ} (s : Summed ps a sum i) (few : length ps ≤ most_points) (z : ℤ) (low : nat_abs z ≤ 2 ^ 21) where
   abbrev added : ℤ
-  added = to_z w32 sum +ℤ to_z w32 (of_z w32 z)
+  added = sum +ℤ to_z w32 (of_z w32 z)
 
-  added_is : added ≡ to_z w32 sum +ℤ z
-  added_is = ap (λ (y : ℤ). to_z w32 sum +ℤ y) (to_z-of_z w32 z (stands z (omega (arith, low))))
+  added_is : added ≡ sum +ℤ z
+  added_is = ap (λ (y : ℤ). sum +ℤ y) (to_z-of_z w32 z (stands z (omega (arith, low))))
 
   added_small : nat_abs added ≤ 2 ^ 21 * i
-  added_small = rw added_is (omega (arith, nat_abs_add (to_z w32 sum) z, low, s.small))
+  added_small = rw added_is (omega (arith, nat_abs_add sum z, low, s.small))
 
   pub added_fits : SFits w32 added
   added_fits = stands added (omega (arith, added_small, s.passed))
 
   module _ (b : Point) (is : z ≡ cross (pt_of a) (pt_of b)) where
-    read_back : to_z w32 (of_z w32 added) ≡ to_z w32 sum +ℤ cross (pt_of a) (pt_of b)
-    read_back = to_z-of_z w32 added added_fits ∙ added_is ∙ ap (λ (y : ℤ). to_z w32 sum +ℤ y) is
+    read_back : to_z w32 (of_z w32 added) ≡ sum +ℤ cross (pt_of a) (pt_of b)
+    read_back = to_z-of_z w32 added added_fits ∙ added_is ∙ ap (λ (y : ℤ). sum +ℤ y) is
 
-    pub summed_more : on_grid_pt b ≡ true → i < length ps → pt_of b ≡ point ps i → Summed ps b (of_z w32 added) (i + 1)
+    pub summed_more : on_grid_pt b ≡ true → i < length ps → pt_of b ≡ point ps i → Summed ps b (to_z w32 (of_z w32 added)) (i + 1)
     summed_more on h e = record {
-      walk = rw read_back (walk_more ps (Adds ps (to_z w32 sum)) s.walk (Adds ps (to_z w32 sum +ℤ cross (pt_of a) (pt_of b))) h b on e (edge_added ps a b (to_z w32 sum)));
+      walk = rw read_back (walk_more ps (Adds ps sum) s.walk (Adds ps (sum +ℤ cross (pt_of a) (pt_of b))) h b on e (edge_added ps a b sum));
       small = rw (to_z-of_z w32 added added_fits) (omega (arith, added_small));
       passed = omega arith;
     }
 
     pub summed_last : length ps ≤ i → pt_of b ≡ point ps 0 → to_z w32 (of_z w32 added) ≡ area2 ps
-    summed_last h e = read_back ∙ last_added ps a b (to_z w32 sum) (walk_last ps (Adds ps (to_z w32 sum)) s.walk h b e)
+    summed_last h e = read_back ∙ last_added ps a b sum (walk_last ps (Adds ps sum) s.walk h b e)

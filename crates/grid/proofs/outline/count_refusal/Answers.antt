@@ -5,8 +5,7 @@ use borrow.Author.Tests.{eq-eqb, ne_eqb, lt-ltb, le-ltb}
 use lib.ListN.{drop}
 use Rattle.rules.specs.Refusals.{first_refusal, count_checks}
 use Rattle.rules.proofs.Rows.{row_on, row_off, no_rows}
-use Rattle.grid.proofs.outline.count_refusal.Statement.{statement}
-use Rattle.grid.proofs.outline.count_refusal.Tie as tie
+use Rattle.grid.proofs.outline.count_refusal.Goals as goal
 
 module _ (least most n : ℕ) where
   abbrev number : ℕ
@@ -34,17 +33,14 @@ module _ (least most n : ℕ) where
       unfolding count_checks
       none h = sym (past_two ∙ row_off 3 _ (le-ltb most (n / 2) h) ∙ no_rows)
 
-returns : tie.Need-returns
-returns c = odd _ _ _ c.if1.true
+pub returns-then-coordinates-eq1 : goal.returns-then-coordinates-eq1
+returns-then-coordinates-eq1 c = odd _ _ _ c.if-coordinates-eq1.true
 
-returns_2 : tie.Need-returns-2
-returns_2 c = few _ _ _ c.before.if1.false c.if2.true
+pub returns-then-n-least : goal.returns-then-n-least
+returns-then-n-least c = few _ _ _ c.if-coordinates-eq1.false c.if-n-least.true
 
-returns-3 : tie.Need-returns-3
-returns-3 c = many _ _ _ c.before.before.if1.false c.before.if2.false c.if3.true
+pub returns-then-most-n : goal.returns-then-most-n
+returns-then-most-n c = many _ _ _ c.if-coordinates-eq1.false c.if-n-least.false c.if-most-n.true
 
-returns-4 : tie.Need-returns-4
-returns-4 c = none _ _ _ c.before.before.if1.false c.before.if2.false c.if3.false
-
-pub count_refusal_spec : {M : Type 1} → statement M
-count_refusal_spec = tie.close (tie.spec returns returns_2 returns-3 returns-4)
+pub returns : goal.returns
+returns c = none _ _ _ c.if-coordinates-eq1.false c.if-n-least.false c.if-most-n.false

@@ -5,8 +5,7 @@ use lib.Dec.{T}
 use lib.IntN.{pos}
 use lib.Ieee.{Float, nan, inf, fin, binary32, is_nan, of_bits, to_bits, le}
 use Rattle.words.specs.Bytes.{bits_of}
-use Rattle.words.proofs.bits.Statement.{statement}
-use Rattle.words.proofs.bits.Tie as tie
+use Rattle.words.proofs.bits.Goals as goal
 
 no_nan : (x y : Float) → le x y ≡ true → T (not (is_nan y))
 unfolding le is_nan
@@ -22,16 +21,13 @@ not_below x e = rw e refl
 below : (x : Float) → le (fin false 0 (pos 0)) x ≡ false → 4294967295 ≡ bits_of x
 below x e = rw e refl
 
-float-to-bits-result : tie.Need-float-to-bits-result
-float-to-bits-result c = no_nan _ _ c.if1.true
+pub float_to_bits-result : goal.float_to_bits-result
+float_to_bits-result c = no_nan _ _ c.if-x.true
 
-returns : tie.Need-returns
+pub returns-then-x : goal.returns-then-x
 unfolding of_bits
-returns c = not_below c.before.args.x c.if1.true
+returns-then-x c = not_below c.args.x c.if-x.true
 
-returns_2 : tie.Need-returns-2
+pub returns-else-x : goal.returns-else-x
 unfolding of_bits
-returns_2 c = below c.before.args.x c.if1.false
-
-pub bits_spec : {M : Type 1} → statement M
-bits_spec = tie.close (tie.spec float-to-bits-result returns returns_2)
+returns-else-x c = below c.args.x c.if-x.false

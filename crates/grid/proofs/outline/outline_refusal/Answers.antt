@@ -10,8 +10,7 @@ use borrow.Author.Rules.{rules}
 use Rattle.rules.specs.Refusals.{◌gives◌, first_refusal, off_grid, count_checks, outline_checks}
 use Rattle.rules.proofs.Rows.{row_on, row_off, no_rows, front_gives, others_decide}
 use Rattle.rules.proofs.Fronts.{count-front}
-use Rattle.grid.proofs.outline.outline_refusal.Statement.{statement}
-use Rattle.grid.proofs.outline.outline_refusal.Tie as tie
+use Rattle.grid.proofs.outline.outline_refusal.Goals as goal
 
 module _ (least most : ℕ) (cs : List Float) {n : ℕ} (first : n ≡ first_refusal (count_checks least most (length cs))) where
   counted : n ≢ 0 → n ≡ first_refusal (outline_checks least most cs)
@@ -27,21 +26,11 @@ module _ (least most : ℕ) (cs : List Float) {n : ℕ} (first : n ≡ first_ref
     on : off_grid cs ≡ false → 0 ≡ first_refusal (outline_checks least most cs)
     on e = sym (grid_decides ∙ row_off 4 [] e ∙ no_rows)
 
-count-refusal-requires : tie.Need-count-refusal-requires
-count-refusal-requires c κs = search rules
+pub returns-then-number-ne0 : goal.returns-then-number-ne0
+returns-then-number-ne0 c = counted _ _ _ c.count_refusal-number.ensures c.if-number-ne0.true
 
-returns : tie.Need-returns
-returns c = counted _ _ _ c.before.count-refusal.ensures c.if1.true
+pub returns-then-off_grid : goal.returns-then-off_grid
+returns-then-off_grid c = off _ _ _ c.count_refusal-number.ensures c.if-number-ne0.false (sym c.off_grid.ensures ∙ c.if-off_grid.true)
 
-off-grid-requires : tie.Need-off-grid-requires
-off-grid-requires c κs = search rules
-
-returns_2 : tie.Need-returns-2
-returns_2 c = off _ _ _ c.before.before.before.count-refusal.ensures c.before.before.if1.false (sym c.before.off_grid_lem.ensures ∙ c.if2.true)
-
-returns-3 : tie.Need-returns-3
-returns-3 c = on _ _ _ c.before.before.before.count-refusal.ensures c.before.before.if1.false (sym c.before.off_grid_lem.ensures ∙ c.if2.false)
-
-pub outline_refusal_spec : {M : Type 1} → statement M
-outline_refusal_spec =
-    tie.close (tie.spec count-refusal-requires returns off-grid-requires returns_2 returns-3)
+pub returns : goal.returns
+returns c = on _ _ _ c.count_refusal-number.ensures c.if-number-ne0.false (sym c.off_grid.ensures ∙ c.if-off_grid.false)

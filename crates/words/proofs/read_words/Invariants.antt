@@ -1,0 +1,16 @@
+-- `read_words` meets its contract. The invariant: the words below i are read.
+use Prim.Native.Nat.{◌-◌, ◌≤◌, ◌<◌}
+use native.Mathlib.Omega.{arith}
+use mathlib.Core.Path.{◌≡◌, refl, sym, ◌∙◌}
+use mathlib.Core.List.{◌++◌}
+use lib.ListN.{length, get_or, take, drop, length-set}
+use Rattle.words.proofs.Copies.{copy_more, copy_end}
+use Rattle.words.specs.Bytes.{words_of}
+use Rattle.words.proofs.Words.{words_at, words_length}
+use Rattle.words.proofs.read_words.Given as goal
+
+abbrev pub invariant-loop-i : goal.invariant-loop-i
+invariant-loop-i l = (l.i ≤ l.n) × (length l.words ≡ length l.initial.words) × (l.words ≡ take l.i (words_of l.bytes) ++ drop l.i l.initial.words)
+
+abbrev pub decreases-loop-i : goal.decreases-loop-i
+decreases-loop-i l = l.n - l.i
