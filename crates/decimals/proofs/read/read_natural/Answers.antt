@@ -2,8 +2,9 @@ use Prim.Native.Nat.{◌-◌}
 use native.Mathlib.Omega.{arith}
 use mathlib.Core.Path.{refl}
 use borrow.Author.Rules.{rules}
-use borrow.Author.Tests.{leb-true, leb-false}
+use Rattle.std.proofs.lemmas.Bool.Decides.{nat_tests}
 use lib.ListN.{length}
+use lib.Dec.{leb}
 use Rattle.decimals.specs.Reads.{DigitAt}
 use Rattle.decimals.proofs.Flags.{there, nothing}
 use Rattle.decimals.proofs.Digits.{inside, no_digit, Sofar, begun, further, natural-done, zero_told}
@@ -16,7 +17,7 @@ pub overflow_add-i : goal.overflow_add-i
 overflow_add-i c = omega (arith, inside c.digit-first.ensures c.if-first-eq10.false)
 
 pub returns-then-first-eq0 : goal.returns-then-first-eq0
-returns-then-first-eq0 c = let told = zero_told _ _ _ _ c.digit-first.ensures c.if-first-eq0.true c.digit-d.ensures _ (λ t. omega (arith, leb-true)) (λ t. omega (arith, leb-false)) in record { natural_at = told.0; no_natural = told.1 }
+returns-then-first-eq0 c = let told = zero_told _ _ _ _ c.digit-first.ensures c.if-first-eq0.true c.digit-d.ensures (leb 10 c.digit-d.result) (λ t. grind (arith, nat_tests)) (λ t. grind (arith, nat_tests)) in record { natural_at = told.0; no_natural = told.1 }
 
 pub loop-d-init : goal.loop-d-init
 loop-d-init c = (begun _ _ _ c.digit-first.ensures c.if-first-eq10.false c.if-first-eq0.false, c.digit-d.ensures)

@@ -1,0 +1,7 @@
+-- `fill` meets its contract.
+use Rattle.blocking.proofs.Stripping.{all-stripped}
+use borrow.Author.Rules.{rules}
+use Rattle.blocking.proofs.strips.fill.Goals as goal
+
+pub returns : goal.returns
+returns c = all-stripped _ _ _ c.mark_all.ensures c.gather.ensures

@@ -1,0 +1,16 @@
+-- `mark_all` meets its contract. The invariant: the points below k are in the masks of their own strips.
+use mathlib.Core.Path.{◌≡◌, refl}
+use lib.ListN.{length}
+use Prim.Native.Nat.{◌-◌, ◌≤◌, ◌<◌}
+use native.Mathlib.Omega.{arith}
+use Rattle.rules.specs.Grid.{points_of}
+use Rattle.rules.proofs.Coordinates.{points-length, point_fits}
+use Rattle.blocking.specs.Strips.{MarkedUpTo}
+use Rattle.blocking.proofs.Stripping.{marked_more}
+use Rattle.blocking.proofs.strips.mark_all.Given as goal
+
+abbrev pub invariant-loop-k : goal.invariant-loop-k
+invariant-loop-k l = (l.k ≤ l.n) × MarkedUpTo (points_of l.coords) l.k l.strips
+
+abbrev pub decreases-loop-k : goal.decreases-loop-k
+decreases-loop-k l = l.n - l.k

@@ -1,0 +1,10 @@
+-- `pointiness` meets its contract.
+use Rattle.std.proofs.Common.{◌∙◌, rules}
+use Rattle.rules.specs.Plane.{minus}
+use Rattle.grid.specs.Points.{pt_of}
+use Rattle.root.proofs.Length.{pointiness_of}
+use Rattle.root.proofs.pointiness.Goals as goal
+
+pub returns : goal.returns
+returns c =
+    c.dot.ensures ∙ pointiness_of (minus (pt_of c.args.q) (pt_of c.args.p)) (minus (pt_of c.args.s) (pt_of c.args.p)) c.direction-v.ensures.x_value c.direction-v.ensures.y_value c.direction-w.ensures.x_value c.direction-w.ensures.y_value
