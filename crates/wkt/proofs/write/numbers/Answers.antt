@@ -10,13 +10,8 @@ use borrow.Author.Rules.{rules}
 use Rattle.algebra.specs.Lists.{count_from}
 use Rattle.algebra.proofs.Counting.{count_more}
 use Rattle.rules.specs.Limits.{most_points}
+use Rattle.wkt.proofs.write.numbers.Invariants.{Counted}
 use Rattle.wkt.proofs.write.numbers.Goals as goal
-
--- the first i of a list are the numbers from 0 on
-record Counted (all : List ℕ) (i : ℕ) : Type 0 where
-  within : i ≤ most_points
-  size : length all ≡ most_points
-  first : take i all ≡ count_from 0 i
 
 counted_more : {all : List ℕ} {i : ℕ} → Counted all i → i < most_points → Counted (set all i i) (i + 1)
 counted_more {all} {i} w h =

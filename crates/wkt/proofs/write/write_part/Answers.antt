@@ -13,8 +13,7 @@ long from n = omega arith
 
 pub write_area-requires : goal.write_area-requires
 write_area-requires c =
-    let told =
-    rw (long c.args.from c.args.n) (known_part c.args.n c.args.from c.requires.known, (simp (length-take, length-drop) (omega (arith, c.requires.n_nonzero)), c.requires.room)) in record { known = told.0; ring_nonzero = told.1.0; room = told.1.1 }
+    record { known = (rw (long c.args.from c.args.n) (known_part c.args.n c.args.from c.requires.known)); ring_nonzero = (rw (long c.args.from c.args.n) (simp (length-take, length-drop) (omega (arith, c.requires.n_nonzero)))); room = (rw (long c.args.from c.args.n) (c.requires.room)) }
 
 pub returns : goal.returns
 returns c =

@@ -21,14 +21,14 @@ corner-first-requires c = record { known = c.requires.known; i_in_bounds = c.req
 pub write_point-end-requires : goal.write_point-end-requires
 write_point-end-requires c =
     let opened_left : let q = pt_of c.corner-first.result in
-    Partly c.args.out.now c.write_byte-start.last.0 c.args.at c.write_byte-start.result (ring_text (points ((points_of c.args.coords.now)) c.args.ring.now))
+    Partly c.args.out.now c.write_byte-start.new.out c.args.at c.write_byte-start.result (ring_text (points ((points_of c.args.coords.now)) c.args.ring.now))
     (point_text q ++ further ((points_of c.args.coords.now)) c.args.ring.now 1 q) = partly_more _ _ (ring-first ((points_of c.args.coords.now)) c.args.ring.now c.requires.ring_nonzero _ c.corner-first.ensures.result_value_2 c.requires.room) c.write_byte-start.ensures in
     record { p_value = c.corner-first.ensures.result_value; room = partly_fits _ _ opened_left }
 
 pub loop-i-init : goal.loop-i-init
 loop-i-init c =
     let opened_left : let q = pt_of c.corner-first.result in
-    Partly c.args.out.now c.write_byte-start.last.0 c.args.at c.write_byte-start.result (ring_text (points ((points_of c.args.coords.now)) c.args.ring.now))
+    Partly c.args.out.now c.write_byte-start.new.out c.args.at c.write_byte-start.result (ring_text (points ((points_of c.args.coords.now)) c.args.ring.now))
     (point_text q ++ further ((points_of c.args.coords.now)) c.args.ring.now 1 q) = partly_more _ _ (ring-first ((points_of c.args.coords.now)) c.args.ring.now c.requires.ring_nonzero _ c.corner-first.ensures.result_value_2 c.requires.room) c.write_byte-start.ensures in
     let others-left : Partly c.args.out.now c.write_point-end.new.out c.args.at c.write_point-end.result (ring_text (points ((points_of c.args.coords.now)) c.args.ring.now))
     (further ((points_of c.args.coords.now)) c.args.ring.now 1 (pt_of c.corner-first.result)) = partly_more _ _ opened_left c.write_point-end.ensures in
@@ -40,7 +40,7 @@ corner-requires c = record { known = c.requires.known; i_in_bounds = c.loop-i-te
 pub write_next-end-requires : goal.write_next-end-requires
 write_next-end-requires c =
     let next-left : let q = pt_of c.corner-first.result in
-    Partly c.write_point-end.last.1.0 c.loop-i.out c.write_point-end.result c.loop-i.end (further ((points_of c.args.coords.now)) c.args.ring.now 1 q)
+    Partly c.write_point-end.new.out c.loop-i.out c.write_point-end.result c.loop-i.end (further ((points_of c.args.coords.now)) c.args.ring.now 1 q)
     ((bytes ", " ++ point_text (pt_of c.corner.result)) ++ further ((points_of c.args.coords.now)) c.args.ring.now (c.loop-i.i + 1) q) = corner-left ((points_of c.args.coords.now)) c.args.ring.now _ _ c.loop-i.invariant c.loop-i-test.true _ c.corner.ensures.result_value_2 in
     record { p_value = c.corner.ensures.result_value; room = partly_fits _ _ next-left }
 
@@ -53,14 +53,14 @@ loop-i-smaller c = omega (arith, c.loop-i-test.true)
 pub loop-i-preserved : goal.loop-i-preserved
 loop-i-preserved c =
     let next-left : let q = pt_of c.corner-first.result in
-    Partly c.write_point-end.last.1.0 c.loop-i.out c.write_point-end.result c.loop-i.end (further ((points_of c.args.coords.now)) c.args.ring.now 1 q)
+    Partly c.write_point-end.new.out c.loop-i.out c.write_point-end.result c.loop-i.end (further ((points_of c.args.coords.now)) c.args.ring.now 1 q)
     ((bytes ", " ++ point_text (pt_of c.corner.result)) ++ further ((points_of c.args.coords.now)) c.args.ring.now (c.loop-i.i + 1) q) = corner-left ((points_of c.args.coords.now)) c.args.ring.now _ _ c.loop-i.invariant c.loop-i-test.true _ c.corner.ensures.result_value_2 in
     partly_more _ _ next-left c.write_next-end.ensures
 
 pub write_next-last-requires : goal.write_next-last-requires
 write_next-last-requires c =
     let opened_left : let q = pt_of c.corner-first.result in
-    Partly c.args.out.now c.write_byte-start.last.0 c.args.at c.write_byte-start.result (ring_text (points ((points_of c.args.coords.now)) c.args.ring.now))
+    Partly c.args.out.now c.write_byte-start.new.out c.args.at c.write_byte-start.result (ring_text (points ((points_of c.args.coords.now)) c.args.ring.now))
     (point_text q ++ further ((points_of c.args.coords.now)) c.args.ring.now 1 q) = partly_more _ _ (ring-first ((points_of c.args.coords.now)) c.args.ring.now c.requires.ring_nonzero _ c.corner-first.ensures.result_value_2 c.requires.room) c.write_byte-start.ensures in
     let others-left : Partly c.args.out.now c.write_point-end.new.out c.args.at c.write_point-end.result (ring_text (points ((points_of c.args.coords.now)) c.args.ring.now))
     (further ((points_of c.args.coords.now)) c.args.ring.now 1 (pt_of c.corner-first.result)) = partly_more _ _ opened_left c.write_point-end.ensures in
@@ -71,7 +71,7 @@ write_next-last-requires c =
 pub write_byte-requires : goal.write_byte-requires
 write_byte-requires c =
     let opened_left : let q = pt_of c.corner-first.result in
-    Partly c.args.out.now c.write_byte-start.last.0 c.args.at c.write_byte-start.result (ring_text (points ((points_of c.args.coords.now)) c.args.ring.now))
+    Partly c.args.out.now c.write_byte-start.new.out c.args.at c.write_byte-start.result (ring_text (points ((points_of c.args.coords.now)) c.args.ring.now))
     (point_text q ++ further ((points_of c.args.coords.now)) c.args.ring.now 1 q) = partly_more _ _ (ring-first ((points_of c.args.coords.now)) c.args.ring.now c.requires.ring_nonzero _ c.corner-first.ensures.result_value_2 c.requires.room) c.write_byte-start.ensures in
     let others-left : Partly c.args.out.now c.write_point-end.new.out c.args.at c.write_point-end.result (ring_text (points ((points_of c.args.coords.now)) c.args.ring.now))
     (further ((points_of c.args.coords.now)) c.args.ring.now 1 (pt_of c.corner-first.result)) = partly_more _ _ opened_left c.write_point-end.ensures in
@@ -82,7 +82,7 @@ write_byte-requires c =
 pub shape_of-out : goal.shape_of-out
 shape_of-out c =
     let opened_left : let q = pt_of c.corner-first.result in
-    Partly c.args.out.now c.write_byte-start.last.0 c.args.at c.write_byte-start.result (ring_text (points ((points_of c.args.coords.now)) c.args.ring.now))
+    Partly c.args.out.now c.write_byte-start.new.out c.args.at c.write_byte-start.result (ring_text (points ((points_of c.args.coords.now)) c.args.ring.now))
     (point_text q ++ further ((points_of c.args.coords.now)) c.args.ring.now 1 q) = partly_more _ _ (ring-first ((points_of c.args.coords.now)) c.args.ring.now c.requires.ring_nonzero _ c.corner-first.ensures.result_value_2 c.requires.room) c.write_byte-start.ensures in
     let others-left : Partly c.args.out.now c.write_point-end.new.out c.args.at c.write_point-end.result (ring_text (points ((points_of c.args.coords.now)) c.args.ring.now))
     (further ((points_of c.args.coords.now)) c.args.ring.now 1 (pt_of c.corner-first.result)) = partly_more _ _ opened_left c.write_point-end.ensures in
@@ -93,7 +93,7 @@ shape_of-out c =
 pub returns : goal.returns
 returns c =
     let opened_left : let q = pt_of c.corner-first.result in
-    Partly c.args.out.now c.write_byte-start.last.0 c.args.at c.write_byte-start.result (ring_text (points ((points_of c.args.coords.now)) c.args.ring.now))
+    Partly c.args.out.now c.write_byte-start.new.out c.args.at c.write_byte-start.result (ring_text (points ((points_of c.args.coords.now)) c.args.ring.now))
     (point_text q ++ further ((points_of c.args.coords.now)) c.args.ring.now 1 q) = partly_more _ _ (ring-first ((points_of c.args.coords.now)) c.args.ring.now c.requires.ring_nonzero _ c.corner-first.ensures.result_value_2 c.requires.room) c.write_byte-start.ensures in
     let others-left : Partly c.args.out.now c.write_point-end.new.out c.args.at c.write_point-end.result (ring_text (points ((points_of c.args.coords.now)) c.args.ring.now))
     (further ((points_of c.args.coords.now)) c.args.ring.now 1 (pt_of c.corner-first.result)) = partly_more _ _ opened_left c.write_point-end.ensures in
