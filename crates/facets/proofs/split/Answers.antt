@@ -16,7 +16,7 @@ use Rattle.facets.proofs.split.Goals as goal
 
 pub returns-then-list-eq0 : goal.returns-then-list-eq0
 returns-then-list-eq0 c =
-    let e = parts_none ((points_of c.args.coords.now)) c.args.list.now c.args.u c.args.v c.if-list-eq0.true in
+    let e = parts_none (points_of c.args.coords.now) c.args.list.now c.args.u c.args.v c.if-list-eq0.true in
     let room : c.args.k < length c.args.out.now = omega (arith, c.requires.most_points_in_bounds, c.requires.v_bound) in
     record { value = omega (arith, ap length e); out_after = rw e (marked_at _ _ _ room c.mark.ensures) }
 
@@ -33,15 +33,15 @@ farthest-w-requires c =
 
 pub lay_two-requires : goal.lay_two-requires
 lay_two-requires c =
-    let far : c.farthest-w.result ≡ farthest_of ((points_of c.args.coords.now)) (normal (point ((points_of c.args.coords.now)) c.args.u) (point ((points_of c.args.coords.now)) c.args.v)) c.args.list.now = c.farthest-w.ensures ∙ (λ i. farthest_of ((points_of c.args.coords.now)) (normal (c.point_at.ensures.result_value_2 i) (c.point_at-2.ensures.result_value_2 i)) c.args.list.now) in
+    let far : c.farthest-w.result ≡ farthest_of (points_of c.args.coords.now) (normal (point (points_of c.args.coords.now) c.args.u) (point (points_of c.args.coords.now) c.args.v)) c.args.list.now = c.farthest-w.ensures ∙ (λ i. farthest_of (points_of c.args.coords.now) (normal (c.point_at.ensures.result_value_2 i) (c.point_at-2.ensures.result_value_2 i)) c.args.list.now) in
     let seen : 0 < length c.args.list.now = omega (arith, c.if-list-eq0.false) in
-    let inside : c.farthest-w.result < length ((points_of c.args.coords.now)) = rw far (farthest_in _ _ _ _ seen c.requires.each) in
-    let parted : parts ((points_of c.args.coords.now)) c.args.list.now c.args.u c.args.v ≡ two ((points_of c.args.coords.now)) c.args.list.now c.args.u c.farthest-w.result c.args.v = parts_some _ _ _ _ _ seen far in
+    let inside : c.farthest-w.result < length (points_of c.args.coords.now) = rw far (farthest_in _ _ _ _ seen c.requires.each) in
+    let parted : parts (points_of c.args.coords.now) c.args.list.now c.args.u c.args.v ≡ two (points_of c.args.coords.now) c.args.list.now c.args.u c.farthest-w.result c.args.v = parts_some _ _ _ _ _ seen far in
     record { coords_value = c.requires.coords_value; coords_len_bound = c.requires.coords_len_bound; each = c.requires.each; u_in_bounds = (c.requires.u_in_bounds.0, inside, c.requires.u_in_bounds.1); most_points_in_bounds = c.requires.most_points_in_bounds; v_bound = rw parted at c.requires.v_bound }
 
 pub returns : goal.returns
 returns c =
     let seen : 0 < length c.args.list.now = omega (arith, c.if-list-eq0.false) in
-    let far : c.farthest-w.result ≡ farthest_of ((points_of c.args.coords.now)) (normal (point ((points_of c.args.coords.now)) c.args.u) (point ((points_of c.args.coords.now)) c.args.v)) c.args.list.now = c.farthest-w.ensures ∙ (λ i. farthest_of ((points_of c.args.coords.now)) (normal (c.point_at.ensures.result_value_2 i) (c.point_at-2.ensures.result_value_2 i)) c.args.list.now) in
-    let parted : parts ((points_of c.args.coords.now)) c.args.list.now c.args.u c.args.v ≡ two ((points_of c.args.coords.now)) c.args.list.now c.args.u c.farthest-w.result c.args.v = parts_some _ _ _ _ _ seen far in
-    let told = rw parted (c.lay_two.ensures.value, c.lay_two.ensures.out_after) in record { value = told.0; out_after = told.1 }
+    let far : c.farthest-w.result ≡ farthest_of (points_of c.args.coords.now) (normal (point (points_of c.args.coords.now) c.args.u) (point (points_of c.args.coords.now) c.args.v)) c.args.list.now = c.farthest-w.ensures ∙ (λ i. farthest_of (points_of c.args.coords.now) (normal (c.point_at.ensures.result_value_2 i) (c.point_at-2.ensures.result_value_2 i)) c.args.list.now) in
+    let parted : parts (points_of c.args.coords.now) c.args.list.now c.args.u c.args.v ≡ two (points_of c.args.coords.now) c.args.list.now c.args.u c.farthest-w.result c.args.v = parts_some _ _ _ _ _ seen far in
+    record { value = (rw parted c.lay_two.ensures.value); out_after = (rw parted c.lay_two.ensures.out_after) }

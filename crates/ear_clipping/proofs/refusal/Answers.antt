@@ -24,8 +24,7 @@ use Rattle.rules.proofs.Rows.{row_on, row_off, no_rows, front_gives, others_deci
 use Rattle.rules.proofs.Fronts.{cutter-front}
 use Rattle.rules.proofs.Coordinates.{points-length}
 use Rattle.rules.proofs.Outlines.{Outlined, outlined}
-use Rattle.ear_clipping.proofs.refusal.Statement.{statement}
-use Rattle.ear_clipping.proofs.refusal.Tie as tie
+use Rattle.ear_clipping.proofs.refusal.Goals as goal
 
 -- the test of a sum that stands in an i32
 tested : (ps : List Pt) (sum : ℤ) → mag sum < 2 ^ 31 → sum ≡ area2 ps → {t : Bool} → le_z (to_z w32 (of_z w32 sum)) (pos 0) ≡ t → area_not_above_zero ps ≡ t
@@ -69,81 +68,40 @@ module _ (cs : List Float) (room : ℕ) {n : ℕ} (first : n ≡ first_refusal (
         enough : 3 * (length cs / 2 - 2) ≤ room → 0 ≡ first_refusal (before_cutting cs room)
         enough h = sym (room_decides ∙ row_off 6 [] (short_is (le-ltb room (3 * (length cs / 2 - 2)) h)) ∙ no_rows)
 
-outline-refusal-requires : tie.Need-outline-refusal-requires
-outline-refusal-requires c κs = search rules
+pub returns-then-number-ne0 : goal.returns-then-number-ne0
+returns-then-number-ne0 c = outline _ _ c.outline_refusal-number.ensures c.if-number-ne0.true
 
-returns : tie.Need-returns
-returns c = outline _ _ c.before.outline-refusal.ensures c.if1.true
+pub equal_neighbours-requires : goal.equal_neighbours-requires
+equal_neighbours-requires c =
+    record { coords_value = (facts _ 0 c.outline_refusal-number.ensures c.if-number-ne0.false).on_grid_lem; nonzero = some _ 0 c.outline_refusal-number.ensures c.if-number-ne0.false }
 
-equal-neighbours-requires : tie.Need-equal-neighbours-requires
-equal-neighbours-requires c κs =
-    let e = c.before.outline-refusal.ensures in
-    ((facts _ 0 e c.if1.false).on_grid_lem, some _ 0 e c.if1.false)
+pub returns-then-equal_neighbours : goal.returns-then-equal_neighbours
+returns-then-equal_neighbours c =
+    equal _ _ c.outline_refusal-number.ensures c.if-number-ne0.false (sym c.equal_neighbours.ensures ∙ c.if-equal_neighbours.true)
 
-returns_2 : tie.Need-returns-2
-returns_2 c =
-    let passed = c.before.before in
-    equal _ _ passed.before.outline-refusal.ensures passed.if1.false (sym c.before.equal-neighbours.ensures ∙ c.if2.true)
+pub area2-requires : goal.area2-requires
+area2-requires c =
+    let f = facts _ 0 c.outline_refusal-number.ensures c.if-number-ne0.false in
+    record { coords_value = f.on_grid_lem; nonzero = (some _ 0 c.outline_refusal-number.ensures c.if-number-ne0.false, f.at_most) }
 
--- where the outline's rows are passed, from where the area is asked
-abbrev passed : tie.Else2 → tie.Else1
-passed c = c.before.before
+pub returns-then-area2-le0 : goal.returns-then-area2-le0
+returns-then-area2-le0 c =
+    let apart : equal_neighbours (points_of c.args.coords.now) ≡ false = sym c.equal_neighbours.ensures ∙ c.if-equal_neighbours.false in
+    let asked : {t : Bool} → le_z (to_z w32 (of_z w32 c.area2.result)) (pos 0) ≡ t → area_not_above_zero (points_of c.args.coords.now) ≡ t = λ e. tested _ c.area2.result c.area2.type-inv c.area2.ensures e in
+    flat _ _ c.outline_refusal-number.ensures c.if-number-ne0.false apart (asked c.if-area2-le0.true)
 
-area2-requires : tie.Need-area2-requires
-area2-requires c κs =
-    let p = passed c in
-    let f = facts _ 0 p.before.outline-refusal.ensures p.if1.left in
-    (f.on_grid_lem, (some _ 0 p.before.outline-refusal.ensures p.if1.left, f.at_most))
+pub overflow_sub-n : goal.overflow_sub-n
+overflow_sub-n c =
+    omega (arith, three _ 0 c.outline_refusal-number.ensures c.if-number-ne0.false)
 
--- the entry of the function, from there
-abbrev start : tie.Else1 → tie.Start
-start c = c.before.before.before
+pub returns-then-room-n : goal.returns-then-room-n
+returns-then-room-n c =
+    let apart : equal_neighbours (points_of c.args.coords.now) ≡ false = sym c.equal_neighbours.ensures ∙ c.if-equal_neighbours.false in
+    let asked : {t : Bool} → le_z (to_z w32 (of_z w32 c.area2.result)) (pos 0) ≡ t → area_not_above_zero (points_of c.args.coords.now) ≡ t = λ e. tested _ c.area2.result c.area2.type-inv c.area2.ensures e in
+    short _ _ c.outline_refusal-number.ensures c.if-number-ne0.false apart (asked c.if-area2-le0.false) c.if-room-n.true
 
--- no neighbours are equal where the area is known
-apart : (c : tie.After-area2) → equal_neighbours (points_of (start (passed c.before)).args.coords.now) ≡ false
-apart c = sym c.before.before.equal-neighbours.ensures ∙ c.before.if2.false
-
--- and what its test says
-asked : (c : tie.After-area2) {t : Bool} → le_z (to_z w32 (of_z w32 c.area2.result)) (pos 0) ≡ t → area_not_above_zero (points_of (start (passed c.before)).args.coords.now) ≡ t
-asked c e = tested _ c.area2.result c.area2.type-inv c.area2.ensures e
-
-returns-3 : tie.Need-returns-3
-returns-3 c =
-    let a = c.before in
-    let p = passed a.before in
-    flat _ _ p.before.outline-refusal.ensures p.if1.left (apart a) (asked a c.if3.true)
-
-sub-if4 : tie.Need-overflow-sub-if4
-sub-if4 c =
-    let p = passed c.before.before in
-    omega (arith, three _ 0 p.before.outline-refusal.ensures p.if1.left)
-
-mul-if4 : tie.Need-overflow-mul-if4
-mul-if4 c = search rules
-
-returns-4 : tie.Need-returns-4
-returns-4 c =
-    let a = c.before.before in
-    let p = passed a.before in
-    short _ _ p.before.outline-refusal.ensures p.if1.left (apart a) (asked a c.before.if3.false) c.if4.true
-
-returns-5 : tie.Need-returns-5
-returns-5 c =
-    let a = c.before.before in
-    let p = passed a.before in
-    enough _ _ p.before.outline-refusal.ensures p.if1.left (apart a) (asked a c.before.if3.false) c.if4.false
-
-pub refusal_spec : {M : Type 1} → statement M
-refusal_spec =
-    tie.close
-    (tie.spec
-    outline-refusal-requires
-    returns
-    equal-neighbours-requires
-    returns_2
-    area2-requires
-    returns-3
-    sub-if4
-    mul-if4
-    returns-4
-    returns-5)
+pub returns : goal.returns
+returns c =
+    let apart : equal_neighbours (points_of c.args.coords.now) ≡ false = sym c.equal_neighbours.ensures ∙ c.if-equal_neighbours.false in
+    let asked : {t : Bool} → le_z (to_z w32 (of_z w32 c.area2.result)) (pos 0) ≡ t → area_not_above_zero (points_of c.args.coords.now) ≡ t = λ e. tested _ c.area2.result c.area2.type-inv c.area2.ensures e in
+    enough _ _ c.outline_refusal-number.ensures c.if-number-ne0.false apart (asked c.if-area2-le0.false) c.if-room-n.false

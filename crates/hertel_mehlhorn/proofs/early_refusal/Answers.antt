@@ -11,8 +11,7 @@ use Rattle.rules.specs.Limits.{most_points, most_triangles}
 use Rattle.rules.specs.Refusals.{first_refusal, outline_checks, list_checks, before_triangles}
 use Rattle.rules.proofs.Rows.{row_on, row_off, no_rows, front_gives, others_decide}
 use Rattle.rules.proofs.Fronts.{list_front}
-use Rattle.hertel_mehlhorn.proofs.early_refusal.Statement.{statement}
-use Rattle.hertel_mehlhorn.proofs.early_refusal.Tie as tie
+use Rattle.hertel_mehlhorn.proofs.early_refusal.Goals as goal
 
 module _ (cs : List Float) (t : ℕ) {n : ℕ} (first : n ≡ first_refusal (outline_checks 0 most_points cs)) where
   outline : n ≢ 0 → n ≡ first_refusal (before_triangles cs t)
@@ -35,26 +34,16 @@ module _ (cs : List Float) (t : ℕ) {n : ℕ} (first : n ≡ first_refusal (out
       unfolding list_checks
       few h = sym (list_decides ∙ row_off 8 _ (ap not (eq-eqb (t % 3) 0 whole)) ∙ row_off 10 _ (le-ltb most_triangles (t / 3) h) ∙ no_rows)
 
-outline-refusal-requires : tie.Need-outline-refusal-requires
-outline-refusal-requires c κs = search rules
+pub returns-then-number-ne0 : goal.returns-then-number-ne0
+returns-then-number-ne0 c = outline _ _ c.outline_refusal-number.ensures c.if-number-ne0.true
 
-returns : tie.Need-returns
-returns c = outline _ _ c.before.outline-refusal.ensures c.if1.true
+pub returns-then-indices-ne0 : goal.returns-then-indices-ne0
+returns-then-indices-ne0 c = ragged _ _ c.outline_refusal-number.ensures c.if-number-ne0.false c.if-indices-ne0.true
 
-returns_2 : tie.Need-returns-2
-returns_2 c = ragged _ _ c.before.before.outline-refusal.ensures c.before.if1.false c.if2.true
+pub returns-then-indices-gt-MOST_TRIANGLES : goal.returns-then-indices-gt-MOST_TRIANGLES
+returns-then-indices-gt-MOST_TRIANGLES c =
+    many _ _ c.outline_refusal-number.ensures c.if-number-ne0.false c.if-indices-ne0.false c.if-indices-gt-MOST_TRIANGLES.true
 
-returns-3 : tie.Need-returns-3
-returns-3 c =
-    let passed = c.before.before in
-    many _ _ passed.before.outline-refusal.ensures passed.if1.false c.before.if2.false c.if3.true
-
-returns-4 : tie.Need-returns-4
-returns-4 c =
-    let passed = c.before.before in
-    few _ _ passed.before.outline-refusal.ensures passed.if1.false c.before.if2.false c.if3.false
-
-pub early_refusal_spec : {M : Type 1} → statement M
-early_refusal_spec =
-    tie.close
-    (tie.spec outline-refusal-requires returns returns_2 returns-3 returns-4)
+pub returns : goal.returns
+returns c =
+    few _ _ c.outline_refusal-number.ensures c.if-number-ne0.false c.if-indices-ne0.false c.if-indices-gt-MOST_TRIANGLES.false

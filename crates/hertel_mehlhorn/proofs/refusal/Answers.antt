@@ -13,8 +13,7 @@ use Rattle.rules.specs.Refusals.{◌gives◌, first_refusal, short_to_merge, out
 use Rattle.rules.proofs.Rows.{row_on, row_off, no_rows, front_gives, others_decide}
 use Rattle.rules.proofs.Fronts.{triangles-front}
 use Rattle.rules.proofs.Coordinates.{points-length}
-use Rattle.hertel_mehlhorn.proofs.refusal.Statement.{statement}
-use Rattle.hertel_mehlhorn.proofs.refusal.Tie as tie
+use Rattle.hertel_mehlhorn.proofs.refusal.Goals as goal
 
 module _ (cs : List Float) (tri : List ℕ) (room places : ℕ) {n : ℕ} (first : n ≡ first_refusal (before_triangles cs (length tri))) where
   abbrev rows : ℕ
@@ -47,47 +46,21 @@ module _ (cs : List Float) (tri : List ℕ) (room places : ℕ) {n : ℕ} (first
         enough : length tri / 3 ≤ places → 0 ≡ rows
         enough h = sym (room_decides ∙ row_off 6 [] (rw (le-ltb room (length tri) fits, le-ltb places (length tri / 3) h)) ∙ no_rows)
 
-early-refusal-requires : tie.Need-early-refusal-requires
-early-refusal-requires c κs = search rules
+pub returns-then-number-ne0 : goal.returns-then-number-ne0
+returns-then-number-ne0 c = early _ _ _ _ c.early_refusal-number.ensures c.if-number-ne0.true
 
-returns : tie.Need-returns
-returns c = early _ _ _ _ c.before.early-refusal.ensures c.if1.true
+pub returns-then-out_of_range : goal.returns-then-out_of_range
+returns-then-out_of_range c =
+    out _ _ _ _ c.early_refusal-number.ensures c.if-number-ne0.false (sym c.out_of_range.ensures ∙ c.if-out_of_range.true)
 
-out-of-range-requires : tie.Need-out-of-range-requires
-out-of-range-requires c κs = search rules
+pub returns-then-room-triangles : goal.returns-then-room-triangles
+returns-then-room-triangles c =
+    short _ _ _ _ c.early_refusal-number.ensures c.if-number-ne0.false (sym c.out_of_range.ensures ∙ c.if-out_of_range.false) c.if-room-triangles.true
 
-returns_2 : tie.Need-returns-2
-returns_2 c =
-    let ranged = c.before in
-    let p = ranged.before in
-    out _ _ _ _ p.before.early-refusal.ensures p.if1.false (sym ranged.out_of_range.ensures ∙ c.if2.true)
+pub returns-then-places-triangles : goal.returns-then-places-triangles
+returns-then-places-triangles c =
+    few-places _ _ _ _ c.early_refusal-number.ensures c.if-number-ne0.false (sym c.out_of_range.ensures ∙ c.if-out_of_range.false) c.if-room-triangles.false c.if-places-triangles.true
 
-returns-3 : tie.Need-returns-3
-returns-3 c =
-    let ranged = c.before.before in
-    let p = ranged.before in
-    short _ _ _ _ p.before.early-refusal.ensures p.if1.false (sym ranged.out_of_range.ensures ∙ c.before.if2.false) c.if3.true
-
-returns-4 : tie.Need-returns-4
-returns-4 c =
-    let within = c.before.before in
-    let p = within.before.before in
-    few-places _ _ _ _ p.before.early-refusal.ensures p.if1.false (sym within.before.out_of_range.ensures ∙ within.if2.false) c.before.if3.false c.if4.true
-
-returns-5 : tie.Need-returns-5
-returns-5 c =
-    let within = c.before.before in
-    let p = within.before.before in
-    enough _ _ _ _ p.before.early-refusal.ensures p.if1.false (sym within.before.out_of_range.ensures ∙ within.if2.false) c.before.if3.false c.if4.false
-
-pub refusal_spec : {M : Type 1} → statement M
-refusal_spec =
-    tie.close
-    (tie.spec
-    early-refusal-requires
-    returns
-    out-of-range-requires
-    returns_2
-    returns-3
-    returns-4
-    returns-5)
+pub returns : goal.returns
+returns c =
+    enough _ _ _ _ c.early_refusal-number.ensures c.if-number-ne0.false (sym c.out_of_range.ensures ∙ c.if-out_of_range.false) c.if-room-triangles.false c.if-places-triangles.false
