@@ -117,7 +117,7 @@ pub put-requires-2 : goal.put-requires-2
 put-requires-2 c =
     let on_grid_lem : (t : Corner ℕ) → Proper (ear_of (points_of c.args.coords.now) t) = λ t. proper _ c.requires.coords_value t in
     let small : c.args.n ≤ most_points = c.requires.le_n.1 in
-    let final : Final (points_of c.args.coords.now) c.args.n (state c.loop-left.prev c.loop-left.next c.loop-left.active c.loop-left.reciprocals c.loop-left.val c.loop-left.win) c.loop-left.k c.loop-left.false c.lowest-i.result = let end : c.loop-left.false ≤ 3 = omega (arith, c.loop-left-test.false) in
+    let final : Final (points_of c.args.coords.now) c.args.n (state c.loop-left.prev c.loop-left.next c.loop-left.active c.loop-left.reciprocals c.loop-left.val c.loop-left.win) c.loop-left.k c.loop-left.left c.lowest-i.result = let end : c.loop-left.left ≤ 3 = omega (arith, c.loop-left-test.false) in
     at-lowest _ on_grid_lem _ _ _ _ _ _ c.loop-left.invariant small _ end c.lowest-i.ensures in
     let f = final in (f.room, f.low)
 
@@ -125,7 +125,7 @@ pub overflow_add-triangles : goal.overflow_add-triangles
 overflow_add-triangles c =
     let on_grid_lem : (t : Corner ℕ) → Proper (ear_of (points_of c.args.coords.now) t) = λ t. proper _ c.requires.coords_value t in
     let small : c.args.n ≤ most_points = c.requires.le_n.1 in
-    let final : Final (points_of c.args.coords.now) c.args.n (state c.loop-left.prev c.loop-left.next c.loop-left.active c.loop-left.reciprocals c.loop-left.val c.loop-left.win) c.loop-left.k c.loop-left.false c.lowest-i.result = let end : c.loop-left.false ≤ 3 = omega (arith, c.loop-left-test.false) in
+    let final : Final (points_of c.args.coords.now) c.args.n (state c.loop-left.prev c.loop-left.next c.loop-left.active c.loop-left.reciprocals c.loop-left.val c.loop-left.win) c.loop-left.k c.loop-left.left c.lowest-i.result = let end : c.loop-left.left ≤ 3 = omega (arith, c.loop-left-test.false) in
     at-lowest _ on_grid_lem _ _ _ _ _ _ c.loop-left.invariant small _ end c.lowest-i.ensures in
     omega (arith, final.room)
 
@@ -133,7 +133,7 @@ pub slice_bounds-triangles-end : goal.slice_bounds-triangles-end
 slice_bounds-triangles-end c =
     let on_grid_lem : (t : Corner ℕ) → Proper (ear_of (points_of c.args.coords.now) t) = λ t. proper _ c.requires.coords_value t in
     let small : c.args.n ≤ most_points = c.requires.le_n.1 in
-    let final : Final (points_of c.args.coords.now) c.args.n (state c.loop-left.prev c.loop-left.next c.loop-left.active c.loop-left.reciprocals c.loop-left.val c.loop-left.win) c.loop-left.k c.loop-left.false c.lowest-i.result = let end : c.loop-left.false ≤ 3 = omega (arith, c.loop-left-test.false) in
+    let final : Final (points_of c.args.coords.now) c.args.n (state c.loop-left.prev c.loop-left.next c.loop-left.active c.loop-left.reciprocals c.loop-left.val c.loop-left.win) c.loop-left.k c.loop-left.left c.lowest-i.result = let end : c.loop-left.left ≤ 3 = omega (arith, c.loop-left-test.false) in
     at-lowest _ on_grid_lem _ _ _ _ _ _ c.loop-left.invariant small _ end c.lowest-i.ensures in
     let whole : length c.put-2.new.triangles ≡ most_indices = ap length c.put-2.ensures ∙ simp length-set c.loop-left.invariant.size in
     omega (arith, final.room, whole)
@@ -142,7 +142,7 @@ pub slice_bounds-copy-end : goal.slice_bounds-copy-end
 slice_bounds-copy-end c =
     let on_grid_lem : (t : Corner ℕ) → Proper (ear_of (points_of c.args.coords.now) t) = λ t. proper _ c.requires.coords_value t in
     let small : c.args.n ≤ most_points = c.requires.le_n.1 in
-    let final : Final (points_of c.args.coords.now) c.args.n (state c.loop-left.prev c.loop-left.next c.loop-left.active c.loop-left.reciprocals c.loop-left.val c.loop-left.win) c.loop-left.k c.loop-left.false c.lowest-i.result = let end : c.loop-left.false ≤ 3 = omega (arith, c.loop-left-test.false) in
+    let final : Final (points_of c.args.coords.now) c.args.n (state c.loop-left.prev c.loop-left.next c.loop-left.active c.loop-left.reciprocals c.loop-left.val c.loop-left.win) c.loop-left.k c.loop-left.left c.lowest-i.result = let end : c.loop-left.left ≤ 3 = omega (arith, c.loop-left-test.false) in
     at-lowest _ on_grid_lem _ _ _ _ _ _ c.loop-left.invariant small _ end c.lowest-i.ensures in
     let whole : length c.put-2.new.triangles ≡ most_indices = ap length c.put-2.ensures ∙ simp length-set c.loop-left.invariant.size in
     let copied_length : length (take (c.loop-left.k + 3) c.put-2.new.triangles) ≡ c.loop-left.k + 3 = length-take-le _ _ (omega (arith, final.room, whole)) in
@@ -152,11 +152,11 @@ pub copy-requires : goal.copy-requires
 copy-requires c =
     let on_grid_lem : (t : Corner ℕ) → Proper (ear_of (points_of c.args.coords.now) t) = λ t. proper _ c.requires.coords_value t in
     let small : c.args.n ≤ most_points = c.requires.le_n.1 in
-    let final : Final (points_of c.args.coords.now) c.args.n (state c.loop-left.prev c.loop-left.next c.loop-left.active c.loop-left.reciprocals c.loop-left.val c.loop-left.win) c.loop-left.k c.loop-left.false c.lowest-i.result = let end : c.loop-left.false ≤ 3 = omega (arith, c.loop-left-test.false) in
+    let final : Final (points_of c.args.coords.now) c.args.n (state c.loop-left.prev c.loop-left.next c.loop-left.active c.loop-left.reciprocals c.loop-left.val c.loop-left.win) c.loop-left.k c.loop-left.left c.lowest-i.result = let end : c.loop-left.left ≤ 3 = omega (arith, c.loop-left-test.false) in
     at-lowest _ on_grid_lem _ _ _ _ _ _ c.loop-left.invariant small _ end c.lowest-i.ensures in
     let whole : length c.put-2.new.triangles ≡ most_indices = ap length c.put-2.ensures ∙ simp length-set c.loop-left.invariant.size in
     let copied_length : length (take (c.loop-left.k + 3) c.put-2.new.triangles) ≡ c.loop-left.k + 3 = length-take-le _ _ (omega (arith, final.room, whole)) in
-    omega (arith, copied_length, final.three, c.loop-left.invariant.count, (c.requires.le_n, c.requires.n_in_bounds))
+    omega (arith, copied_length, final.three, c.loop-left.invariant.count, c.requires.le_n, c.requires.n_in_bounds)
 
 pub overflow_sub-result : goal.overflow_sub-result
 overflow_sub-result c = omega (arith, c.requires.le_n.0)
@@ -170,7 +170,7 @@ pub returns : goal.returns
 returns c =
     let on_grid_lem : (t : Corner ℕ) → Proper (ear_of (points_of c.args.coords.now) t) = λ t. proper _ c.requires.coords_value t in
     let small : c.args.n ≤ most_points = c.requires.le_n.1 in
-    let final : Final (points_of c.args.coords.now) c.args.n (state c.loop-left.prev c.loop-left.next c.loop-left.active c.loop-left.reciprocals c.loop-left.val c.loop-left.win) c.loop-left.k c.loop-left.false c.lowest-i.result = let end : c.loop-left.false ≤ 3 = omega (arith, c.loop-left-test.false) in
+    let final : Final (points_of c.args.coords.now) c.args.n (state c.loop-left.prev c.loop-left.next c.loop-left.active c.loop-left.reciprocals c.loop-left.val c.loop-left.win) c.loop-left.k c.loop-left.left c.lowest-i.result = let end : c.loop-left.left ≤ 3 = omega (arith, c.loop-left-test.false) in
     at-lowest _ on_grid_lem _ _ _ _ _ _ c.loop-left.invariant small _ end c.lowest-i.ensures in
     let f = final in
     answer _ on_grid_lem _ _ _ _ _ _ c.loop-left.invariant small _ f.three c.requires.le_n.2 f.is _ _ _ c.put-2.ensures c.copy.ensures

@@ -87,8 +87,8 @@ area2-requires c =
 pub returns-then-area2-le0 : goal.returns-then-area2-le0
 returns-then-area2-le0 c =
     let apart : equal_neighbours (points_of c.args.coords.now) ≡ false = sym c.equal_neighbours.ensures ∙ c.if-equal_neighbours.false in
-    let asked : {t : Bool} → le_z (to_z w32 (of_z w32 c.area2.result)) (pos 0) ≡ t → area_not_above_zero (points_of c.args.coords.now) ≡ t = λ e. tested _ c.area2.result c.area2.type-inv c.area2.ensures e in
-    flat _ _ c.outline_refusal-number.ensures c.if-number-ne0.false apart (asked c.if-area2-le0.true)
+    let asked : (t : Bool) → le_z (to_z w32 (of_z w32 c.area2.result)) (pos 0) ≡ t → area_not_above_zero (points_of c.args.coords.now) ≡ t = λ t e. tested _ c.area2.result c.area2.type_inv c.area2.ensures e in
+    flat _ _ c.outline_refusal-number.ensures c.if-number-ne0.false apart (asked _ c.if-area2-le0.true)
 
 pub overflow_sub-n : goal.overflow_sub-n
 overflow_sub-n c =
@@ -97,11 +97,11 @@ overflow_sub-n c =
 pub returns-then-room-n : goal.returns-then-room-n
 returns-then-room-n c =
     let apart : equal_neighbours (points_of c.args.coords.now) ≡ false = sym c.equal_neighbours.ensures ∙ c.if-equal_neighbours.false in
-    let asked : {t : Bool} → le_z (to_z w32 (of_z w32 c.area2.result)) (pos 0) ≡ t → area_not_above_zero (points_of c.args.coords.now) ≡ t = λ e. tested _ c.area2.result c.area2.type-inv c.area2.ensures e in
-    short _ _ c.outline_refusal-number.ensures c.if-number-ne0.false apart (asked c.if-area2-le0.false) c.if-room-n.true
+    let asked : (t : Bool) → le_z (to_z w32 (of_z w32 c.area2.result)) (pos 0) ≡ t → area_not_above_zero (points_of c.args.coords.now) ≡ t = λ t e. tested _ c.area2.result c.area2.type_inv c.area2.ensures e in
+    short _ _ c.outline_refusal-number.ensures c.if-number-ne0.false apart (asked _ c.if-area2-le0.false) c.if-room-n.true
 
 pub returns : goal.returns
 returns c =
     let apart : equal_neighbours (points_of c.args.coords.now) ≡ false = sym c.equal_neighbours.ensures ∙ c.if-equal_neighbours.false in
-    let asked : {t : Bool} → le_z (to_z w32 (of_z w32 c.area2.result)) (pos 0) ≡ t → area_not_above_zero (points_of c.args.coords.now) ≡ t = λ e. tested _ c.area2.result c.area2.type-inv c.area2.ensures e in
-    enough _ _ c.outline_refusal-number.ensures c.if-number-ne0.false apart (asked c.if-area2-le0.false) c.if-room-n.false
+    let asked : (t : Bool) → le_z (to_z w32 (of_z w32 c.area2.result)) (pos 0) ≡ t → area_not_above_zero (points_of c.args.coords.now) ≡ t = λ t e. tested _ c.area2.result c.area2.type_inv c.area2.ensures e in
+    enough _ _ c.outline_refusal-number.ensures c.if-number-ne0.false apart (asked _ c.if-area2-le0.false) c.if-room-n.false
