@@ -3,6 +3,8 @@
 
 usage: tools/respell.py             rewrites specs/, proofs/ and the clauses of src/ in place, and says which names fall together
        tools/respell.py --list      prints old and new names, one pair a line
+       tools/respell.py --pages F   rewrites names in backquotes in README.md, docs/ and oracle/, by the pairs in the file F, as --list gave
+                                    them before the first run
 
 Words go from camelCase to snake_case. A dash stays where it joins two names, as in `length-map`; elsewhere in a lemma's name it becomes `_`.
 Names of the library, of src/, of types and modules, and those that Rattle makes for a function's proof stay.
@@ -121,7 +123,25 @@ def turn(text, pairs):
     return "".join(pairs.get(w, w) for w in SPLIT.split(text))
 
 
+def pages():
+    """README.md, the pages of docs/ but that of the port itself, and the sources of oracle/."""
+    yield os.path.join(TOP, "README.md")
+    for top, ending in (("docs", ".md"), ("oracle", ".rs")):
+        for folder, dirs, files in os.walk(os.path.join(TOP, top)):
+            dirs[:] = sorted(d for d in dirs if d != "target")
+            yield from (os.path.join(folder, f) for f in sorted(files) if f.endswith(ending) and f != "PORT.md")
+
+
 def main(argv):
+    if argv[:1] == ["--pages"] and len(argv) == 2:
+        pairs = dict(line.split() for line in read(argv[1]).splitlines() if line.count(" ") == 1)
+        for p in pages():
+            t = read(p)
+            new = re.sub(r"(?<!`)`[^`\n]+`(?!`)", lambda m: turn(m.group(), pairs), t)
+            if new != t:
+                with open(p, "w", encoding="utf-8") as h:
+                    h.write(new)
+        return 0
     pairs, files = renaming()
     if argv == ["--list"]:
         for old, new in pairs.items():
