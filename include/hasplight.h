@@ -1,4 +1,4 @@
-/* Hasplight for C and C++: link target/staticlib/libhasplight.a, which `rt staticlib hasplight` writes.
+/* Hasplight for C and C++: link target/staticlib/libhasplight.a, which `./run --archive hasplight` writes.
  *
  * Each coordinate (an f32), index or length stands as four bytes, low byte first. A slice is an address, which is not null even
  * where the slice is empty, and a number of bytes; bytes past the last whole four are neither read nor written. What is lent to
