@@ -20,8 +20,7 @@ fn hull(floats: &[f32], indices: &mut [u8]) -> Answer
     a
 }
 
-#[unsafe(no_mangle)]
-pub extern "C" fn hasplight_convex_hull2_idx(coords: &[u8], indices: &mut [u8]) -> Answer
+pub fn hasplight_convex_hull2_idx(coords: &[u8], indices: &mut [u8]) -> Answer
     ensures { HullPromise coords.now indices.old result indices.new }
 {
     let n = coords.len() / 4;

@@ -37,8 +37,7 @@ fn cut(floats: &[f32], indices: &mut [u8]) -> Answer
     a
 }
 
-#[unsafe(no_mangle)]
-pub extern "C" fn hasplight_triangulate_ear_clipping(coords: &[u8], indices: &mut [u8]) -> Answer
+pub fn hasplight_triangulate_ear_clipping(coords: &[u8], indices: &mut [u8]) -> Answer
     ensures { CutterPromise coords.now indices.old result indices.new }
 {
     let n = coords.len() / 4;
@@ -71,8 +70,7 @@ fn merge(floats: &[f32], given: &[u32], indices: &mut [u8], lengths: &mut [u8]) 
     a
 }
 
-#[unsafe(no_mangle)]
-pub extern "C" fn hasplight_hertel_mehlhorn_idx(
+pub fn hasplight_hertel_mehlhorn_idx(
     coords: &[u8],
     triangles: &[u8],
     indices: &mut [u8],
@@ -125,15 +123,13 @@ fn ask(x: f32, y: f32, coords: &[u8], convex: bool) -> Verdict
     told(point_in_poly2d::bytes::ask(x, y, coords, convex))
 }
 
-#[unsafe(no_mangle)]
-pub extern "C" fn hasplight_point_in_poly2d(x: f32, y: f32, coords: &[u8]) -> Verdict
+pub fn hasplight_point_in_poly2d(x: f32, y: f32, coords: &[u8]) -> Verdict
     ensures { PointPromise position x y coords.now result }
 {
     ask(x, y, coords, false)
 }
 
-#[unsafe(no_mangle)]
-pub extern "C" fn hasplight_point_in_convex_poly2d(x: f32, y: f32, coords: &[u8]) -> Verdict
+pub fn hasplight_point_in_convex_poly2d(x: f32, y: f32, coords: &[u8]) -> Verdict
     ensures { PointPromise convex_position x y coords.now result }
 {
     ask(x, y, coords, true)

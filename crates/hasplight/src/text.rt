@@ -6,16 +6,14 @@ ghost use Rattle.wkt.specs.Promise.{writing_of};
 use entries::Answer;
 
 // By convex areas.
-#[unsafe(no_mangle)]
-pub extern "C" fn hasplight_fill_areas(line: &[u8], out: &mut [u8]) -> Answer
+pub fn hasplight_fill_areas(line: &[u8], out: &mut [u8]) -> Answer
     ensures { Fills areas_for line.now out.old (writing_of result out.new) }
 {
     fill_line::fill_areas(line, out)
 }
 
 // By triangles.
-#[unsafe(no_mangle)]
-pub extern "C" fn hasplight_fill_triangles(line: &[u8], out: &mut [u8]) -> Answer
+pub fn hasplight_fill_triangles(line: &[u8], out: &mut [u8]) -> Answer
     ensures { Fills triangles_for line.now out.old (writing_of result out.new) }
 {
     fill_line::fill_triangles(line, out)

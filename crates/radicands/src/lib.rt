@@ -12,8 +12,7 @@ fn radicand(m: u32) -> u32
     if 8388608 < m { 0 } else { m }
 }
 
-#[unsafe(no_mangle)]
-pub extern "C" fn hasplight_root(m: u32) -> f32
+pub fn hasplight_root(m: u32) -> f32
     ensures { result ≡ root_of (cond (ltb 8388608 m) 0 m) }
 {
     root::root(radicand(m))
