@@ -14,7 +14,7 @@ use Rattle.rules.specs.Plane.{Pt}
 use Rattle.rules.specs.Grid.{points_of}
 use Rattle.rules.specs.Hull.{hull}
 use Rattle.rules.specs.Layout.{over}
-use Rattle.rules.specs.Refusals.{◌gives◌, first_refusal, on_one_line, outline_checks, cloud_checks}
+use Rattle.rules.specs.Refusals.{first_refusal, on_one_line, outline_checks, cloud_checks}
 use Rattle.rules.specs.Entries.{huller}
 use Rattle.rules.proofs.Rows.{row_on, row_off, no_rows, front_gives, others_decide}
 use Rattle.rules.proofs.Fronts.{cloud_front}

@@ -1,7 +1,6 @@
 -- What the entry promises: number, count and every lent element are those that the rules give, on any input.
 use Rattle.std.specs.Prelude.{ℕ, ◌≡◌, List, length, Float}
 use Rattle.rules.specs.Plane.{Pt}
-use Rattle.rules.specs.Cut.{cut}
 use Rattle.rules.specs.Layout.{flatten, over}
 use Rattle.rules.specs.Entries.{triangles_for, cutter}
 use Rattle.entries.specs.declared.Answer.{Answer}

@@ -12,7 +12,7 @@ use Rattle.algebra.specs.Lists.{Each, end, ◌&◌}
 use Rattle.algebra.specs.Rings.{first_of}
 use Rattle.rules.specs.Limits.{most_points}
 use Rattle.hulls.specs.Rounds.{Facet, Way, stay, along}
-use Rattle.facets.specs.Laid.{mark_of, corner_of, unmarked, leading, one_laid, laid}
+use Rattle.facets.specs.Laid.{mark_of, corner_of, leading, one_laid, laid}
 
 -- every list holds unmarked numbers
 abbrev pub Low : List Facet → Type 0

@@ -10,7 +10,7 @@ use lib.ListN.{length}
 use lib.Ieee.{Float}
 use Rattle.rules.specs.Limits.{most_points, most_coordinates, most_indices}
 use Rattle.rules.specs.Grid.{points_of}
-use Rattle.rules.specs.Layout.{flatten, over}
+use Rattle.rules.specs.Layout.{flatten}
 use Rattle.rules.specs.Refusals.{first_refusal, count_checks, before_cutting, cutter_checks}
 use Rattle.rules.specs.Entries.{Cutting, triangles_for, cutter}
 use Rattle.rules.proofs.Rows.{front_gives}

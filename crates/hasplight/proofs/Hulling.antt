@@ -11,7 +11,6 @@ use lib.Ieee.{Float}
 use Rattle.rules.specs.Limits.{most_points, most_coordinates, most_indices}
 use Rattle.rules.specs.Grid.{points_of}
 use Rattle.rules.specs.Hull.{hull}
-use Rattle.rules.specs.Layout.{over}
 use Rattle.rules.specs.Refusals.{first_refusal, count_checks, hull_checks}
 use Rattle.rules.specs.Entries.{Hulling, huller}
 use Rattle.rules.proofs.Rows.{front_gives}

@@ -5,7 +5,6 @@ use mathlib.Core.List.{List}
 use lib.Ieee.{Float}
 use Rattle.rules.specs.Plane.{Pt}
 use Rattle.rules.specs.Border.{Position}
-use Rattle.rules.specs.Entries.{cutter}
 use Rattle.hasplight.specs.Promise.{Reported, MergerPromise, PointPromise}
 use Rattle.entries.specs.declared.Answer.{Answer}
 use Rattle.entries.proofs.Answers.{answers_equal}

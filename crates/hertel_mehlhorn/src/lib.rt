@@ -5,7 +5,7 @@ ghost use Rattle.std.specs.Prelude.{◌≡◌, ◌/◌, ◌%◌, ◌≤◌, leng
 ghost use Rattle.rules.specs.Limits.{most_points, most_triangles, most_indices};
 ghost use Rattle.rules.specs.Grid.{points_of};
 ghost use Rattle.rules.specs.Layout.{triples};
-ghost use Rattle.rules.specs.Merge.{may_join, merge as mergeOf};
+ghost use Rattle.rules.specs.Merge.{may_join, merge as merge_of};
 ghost use Rattle.rules.specs.Refusals.{first_refusal, out_of_range, before_triangles, merger_checks};
 ghost use Rattle.grid.specs.Points.{Known};
 ghost use Rattle.hertel_mehlhorn.specs.Promise.{Written, Promise};
@@ -22,7 +22,7 @@ fn merge(coords: &[f32], triangles: &[u32], indices: &mut [u32], lengths: &mut [
     requires known { Known coords.now triangles.now × (length (points_of coords.now) ≤ most_points) }
     requires triangles_len { (length triangles.now % 3 ≡ 0) × (length triangles.now ≤ most_indices) }
     requires triangles_in_bounds { (length triangles.now ≤ length indices.old) × (length triangles.now / 3 ≤ length lengths.old) }
-    ensures written { Written (mergeOf (may_join (points_of coords.now)) (triples triangles.now)) indices.old lengths.old result indices.new lengths.new }
+    ensures written { Written (merge_of (may_join (points_of coords.now)) (triples triangles.now)) indices.old lengths.old result indices.new lengths.new }
     ensures upper_bound { result ≤ most_triangles }
 {
     let mut edges = no_edges();

@@ -8,7 +8,7 @@ use native.Mathlib.Omega.{arith}
 use native.Mathlib.Nat.{add-zero, add-suc}
 use lib.ListN.{length, length-map}
 use Rattle.algebra.specs.Lists.{Each, end, ◌&◌}
-use Rattle.algebra.specs.Rings.{Edge, steps, edges, bends, corners, last_of}
+use Rattle.algebra.specs.Rings.{Edge, steps, edges, bends, last_of}
 use Rattle.algebra.proofs.Lists.{each_imp, each_both, each_map, each_back, each_head, each_++}
 use Rattle.algebra.proofs.Rings.{steps-last}
 use Rattle.algebra.proofs.Occurrences.{times, times-distinct}

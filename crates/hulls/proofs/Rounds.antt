@@ -8,7 +8,7 @@ use native.Mathlib.Omega.{arith}
 use lib.ListN.{length}
 use lib.IntN.{pos}
 use lib.Signed.{◌≤ℤ◌, ◌<ℤ◌}
-use Rattle.algebra.specs.Lists.{Each, end, ◌&◌, keep}
+use Rattle.algebra.specs.Lists.{Each, end, ◌&◌}
 use Rattle.algebra.proofs.Lists.{each_++, each_imp, each_head, each_tail, each_keep, keep_same}
 use Rattle.algebra.proofs.Equal.{and_true_r, and_only}
 use Rattle.algebra.proofs.Order.{≤ℤ-trans, <ℤ→≤ℤ}

@@ -9,7 +9,7 @@ use lib.ListN.{length, drop, drop_of_length-le}
 use lib.IntN.{pos}
 use lib.Seq.{drop-cons}
 use Rattle.algebra.specs.Sums.{xor, xor_comm}
-use Rattle.algebra.specs.Rings.{Edge, steps, edges, last_of}
+use Rattle.algebra.specs.Rings.{Edge, steps, last_of}
 use Rattle.rules.specs.Plane.{Pt, point}
 use Rattle.grid.specs.declared.point.Point.{Point}
 use Rattle.grid.specs.Points.{pt_of}

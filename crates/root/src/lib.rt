@@ -7,7 +7,7 @@ ghost use Rattle.std.specs.Prelude.{◌≡◌, ◌*◌, ◌^◌, ◌<◌, ◌≤
 ghost use Rattle.std.specs.Float.{binary32};
 ghost use Rattle.std.specs.Float.Ieee.{mul, of_int};
 ghost use Rattle.rules.specs.Plane.{minus};
-ghost use Rattle.rules.specs.Root.{Scaled, reciprocal as reciprocal_of, root as root_of, pointiness as pointinessOf};
+ghost use Rattle.rules.specs.Root.{Scaled, reciprocal as reciprocal_of, root as root_of, pointiness as pointiness_of};
 ghost use Rattle.grid.specs.Points.{on_grid_pt, pt_of};
 
 use grid::point::Point;
@@ -83,7 +83,7 @@ pub fn pointiness(q: Point, p: Point, s: Point, before: f32, after: f32) -> f32
     requires s_value { on_grid_pt s ≡ true }
     requires before_value { before ≡ reciprocal_of (minus (pt_of q) (pt_of p)) }
     requires after_value { after ≡ reciprocal_of (minus (pt_of s) (pt_of p)) }
-    ensures { result ≡ pointinessOf (minus (pt_of q) (pt_of p)) (minus (pt_of s) (pt_of p)) }
+    ensures { result ≡ pointiness_of (minus (pt_of q) (pt_of p)) (minus (pt_of s) (pt_of p)) }
 {
     let v = direction(q, p, before);
     let w = direction(s, p, after);

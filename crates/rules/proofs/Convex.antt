@@ -2,7 +2,6 @@
 use mathlib.Core.Path.{◌≡◌, refl, sym, ◌∙◌, ap}
 use mathlib.Core.Bool.{Bool, true, false, not, ◌&&◌, ◌||◌}
 use mathlib.Core.List.{[], ◌∷◌}
-use Prim.Native.Nat.{zero}
 use lib.IntN.{ℤ, pos, neg_ℤ}
 use lib.Signed.{lt_z}
 use Rattle.algebra.proofs.Equal.{impossible}

@@ -23,7 +23,7 @@ use Rattle.rules.specs.Refusals.{◌gives◌, first_refusal, equal_neighbours, a
 use Rattle.rules.specs.Entries.{triangles_for}
 use Rattle.rules.specs.Measure.{points, area2}
 use Rattle.rules.specs.Text.{InForm, NotInForm, multipolygon_line}
-use Rattle.rules.specs.Lines.{in_form, not_in_form, Writing, writing, fill_room, before_ring, areas_for, fill_checks, filler, Fills}
+use Rattle.rules.specs.Lines.{in_form, not_in_form, Writing, fill_room, before_ring, areas_for, fill_checks, filler, Fills}
 use Rattle.rules.proofs.Rows.{row_off, given_number, front_skips, others_decide}
 use Rattle.rules.proofs.Answers.{over-beyond, writing-number, writing-answered, writing_refused}
 use Rattle.rules.proofs.Layouts.{take-over}

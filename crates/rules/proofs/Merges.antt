@@ -13,7 +13,7 @@ use Rattle.algebra.specs.Sums.{Sums, total}
 use Rattle.algebra.proofs.Sums.{total_++, left_comm}
 use Rattle.rules.specs.Plane.{Pt}
 use Rattle.algebra.specs.Rings.{Corner, rotations}
-use Rattle.rules.specs.Merge.{follows, Part, with, last_first, mate, JoinTest, joint, bent, may_join, join_with, join, next_join, go_on, merge_from, merge}
+use Rattle.rules.specs.Merge.{follows, Part, last_first, mate, JoinTest, joint, bent, may_join, join_with, join, next_join, go_on, merge_from, merge}
 use Rattle.algebra.proofs.Rings.{Rotated, each_rotated, total_rotated, begun_rotated, rotations_are}
 
 -- ---- what the searches find

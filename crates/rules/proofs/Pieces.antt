@@ -9,7 +9,7 @@ use Rattle.algebra.specs.Lists.{Each, end, ◌&◌}
 use Rattle.algebra.proofs.Lists.{each_++, each_imp, each_map}
 use Rattle.algebra.specs.Sums.{Sums, total, naturals}
 use Rattle.rules.specs.Plane.{Pt, point}
-use Rattle.algebra.specs.Rings.{Corner, corners, ring_of, around}
+use Rattle.algebra.specs.Rings.{Corner, ring_of, around}
 use Rattle.rules.specs.Merge.{JoinTest, joint, may_join, merge}
 use Rattle.rules.specs.Measure.{NotRight, NoneRight}
 use Rattle.algebra.proofs.Rings.{Rotated, rotated_length, corners_rotated, each_rotated, around_rotated, join, corners-two}

@@ -12,7 +12,7 @@ use Rattle.algebra.specs.Lists.{Each, end, ◌&◌, first, or_else}
 use Rattle.algebra.proofs.Lists.{each_tail}
 use Rattle.algebra.specs.Rings.{rotations, rotations_from}
 use Rattle.algebra.proofs.Rings.{each_rotated}
-use Rattle.rules.specs.Merge.{follows, Part, with, last_first, mate}
+use Rattle.rules.specs.Merge.{follows, Part, last_first, mate}
 use Rattle.rules.proofs.Merges.{Picked, mated_in}
 use Rattle.rules.proofs.Queues.{Apart, mate_none, picked_each}
 

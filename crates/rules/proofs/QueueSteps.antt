@@ -12,7 +12,7 @@ use Rattle.algebra.proofs.Lists.{each_++, each-front, each_back, each_swap, each
 use Rattle.algebra.proofs.Equal.{impossible}
 use Rattle.algebra.proofs.Rings.{Rotated}
 use Rattle.rules.specs.Merge.{Part, mate, JoinTest, next_join, merge}
-use Rattle.rules.proofs.QueueSlots.{may_meet, Slot, corners_of, fresh, out, refused, joins, judged, look, look_at, queued}
+use Rattle.rules.proofs.QueueSlots.{may_meet, Slot, corners_of, fresh, out, joins, judged, look, look_at, queued}
 use Rattle.rules.proofs.Merges.{mated_in, merge-next, merge-join}
 use Rattle.rules.proofs.Queues.{Stands, begins, lone_stands, refused_stands, joined-next, joined-stands, stands-end}
 use Rattle.rules.proofs.QueueMates.{picked_length}

@@ -10,7 +10,7 @@ use Rattle.algebra.proofs.Lists.{each_++, each-front, each_back, each_tail, each
 use Rattle.algebra.proofs.Equal.{impossible}
 use Rattle.algebra.specs.Rings.{Edge, steps, edges, rotations, rotations_from}
 use Rattle.algebra.proofs.Rings.{edges-two, edges_rotated, each_rotated, begun_rotated, swapped}
-use Rattle.rules.specs.Merge.{follows, Part, with, mate, JoinTest, join_with, join, next_join}
+use Rattle.rules.specs.Merge.{follows, Part, mate, JoinTest, join_with, join, next_join}
 use Rattle.rules.proofs.QueueSlots.{may_meet, Slot, corners_of, fresh, out, lone, refused, joins, judged, look, look_at, grown}
 use Rattle.rules.proofs.Merges.{Picked, mated_in}
 

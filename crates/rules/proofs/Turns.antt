@@ -7,7 +7,7 @@ use lib.Signed.{lt_z, le_z}
 use Rattle.algebra.specs.Reify.{reify}
 use Rattle.algebra.proofs.Solve.{ring}
 use Rattle.algebra.proofs.Order.{lin, up_neg, dn_neg, lt_z_eq}
-use Rattle.rules.specs.Plane.{Pt, cross, turn, left, right}
+use Rattle.rules.specs.Plane.{Pt, cross, turn, right}
 use Rattle.rules.specs.Crossing.{perp, upward, downward, crossed}
 
 abbrev pub coordinates : List Pt → List ℤ

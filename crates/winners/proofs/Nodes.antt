@@ -11,7 +11,6 @@ use lib.Seq.{get_or-set_same, get_or-set_other}
 use lib.Ieee.{Float, nan, binary32, lt, eq, le, is_nan, fits, of_bits, to_bits}
 use lib.Ieee.Bits.{of_bits-to_bits}
 use Rattle.algebra.proofs.Equal.{eqb-true, or-false}
-use Rattle.winners.specs.Tree as tree
 use Rattle.winners.specs.Tree.{Right, StandsBut, Differs}
 use Rattle.rules.specs.Ear as rules
 use Rattle.rules.specs.Cut.{Choice, nothing, better}

@@ -6,7 +6,7 @@ use mathlib.Core.Bool.{Bool, true, false, cond}
 use mathlib.Core.List.{List, [], ◌∷◌, map}
 use lib.Ieee.{Float, le, is_nan}
 use lib.Pow.{pow_pos}
-use Rattle.algebra.specs.Lists.{Each, end, ◌&◌}
+use Rattle.algebra.specs.Lists.{Each, ◌&◌}
 use Rattle.algebra.specs.Rings.{Corner}
 use Rattle.algebra.proofs.Equal.{impossible}
 use Rattle.rules.specs.Plane.{Pt}

@@ -1,6 +1,5 @@
 -- `beyond` meets its contract.
 use lib.Ieee.{of_bits}
-use borrow.Author.Rules.{rules}
 use Rattle.blocking.proofs.beyond.Goals as goal
 
 pub returns : goal.returns

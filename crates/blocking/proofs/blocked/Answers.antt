@@ -4,7 +4,7 @@ use native.Mathlib.Nat.{mod-lt, lt_of_lt_of_le}
 use mathlib.Core.Path.{◌≡◌}
 use lib.Pow.{pow_pos}
 use Rattle.algebra.proofs.Bits.{one_shifted}
-use Rattle.blocking.proofs.Answers.{Looked, looked_more, none_there, hit, free}
+use Rattle.blocking.proofs.Answers.{looked_more, none_there, hit, free}
 use Rattle.blocking.proofs.blocked.Goals as goal
 
 pub candidates-mask-requires : goal.candidates-mask-requires

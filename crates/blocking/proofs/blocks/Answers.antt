@@ -2,7 +2,6 @@
 use mathlib.Core.Path.{◌≡◌}
 use mathlib.Core.Bool.{Bool, not, ◌||◌}
 use Rattle.blocking.specs.InFloats.{blocks_of}
-use borrow.Author.Rules.{rules}
 use Rattle.blocking.proofs.blocks.Goals as goal
 
 joined : {r s a b e a' b' e' : Bool} → r ≡ (a || s) → s ≡ (b || e) → a ≡ a' → b ≡ b' → e ≡ e' → not r ≡ not (a' || (b' || e'))

@@ -1,10 +1,5 @@
-use Prim.Native.Nat.{◌-◌, ◌≤◌}
 use native.Mathlib.Omega.{arith}
-use mathlib.Core.Path.{◌≡◌}
-use mathlib.Core.Bool.{◌||◌}
-use borrow.Author.Rules.{rules}
-use Rattle.blocking.specs.InFloats.{blocks_no, blocks_from}
-use Rattle.blocking.proofs.Scans.{left, first, next, last}
+use Rattle.blocking.proofs.Scans.{first, next, last}
 use Rattle.blocking.proofs.eight_block.Goals as goal
 
 pub loop-i-init : goal.loop-i-init

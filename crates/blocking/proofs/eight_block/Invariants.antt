@@ -1,11 +1,9 @@
 -- `eight_block` meets its contract. The invariant: the eight are the hit so far, or one of those from i on.
 use Prim.Native.Nat.{◌-◌, ◌≤◌}
-use native.Mathlib.Omega.{arith}
 use mathlib.Core.Path.{◌≡◌}
 use mathlib.Core.Bool.{◌||◌}
-use borrow.Author.Rules.{rules}
 use Rattle.blocking.specs.InFloats.{blocks_no, blocks_from}
-use Rattle.blocking.proofs.Scans.{left, first, next, last}
+use Rattle.blocking.proofs.Scans.{left}
 use Rattle.blocking.proofs.eight_block.Given as goal
 
 abbrev pub invariant-loop-i : goal.invariant-loop-i

@@ -1,14 +1,11 @@
 use Prim.Native.Nat.{ℕ, suc, ◌+◌, ◌-◌, ◌≤◌, ◌<◌}
 use native.Mathlib.Omega.{arith}
 use mathlib.Core.Path.{◌≡◌, sym, ◌∙◌, ap, subst}
-use mathlib.Core.Logic.{inl, inr}
 use mathlib.Core.List.{List, []}
-use borrow.Author.Rules.{rules}
 use lib.ListN.{length, take}
 use lib.Seq.{length-take-le}
 use Rattle.rules.specs.Grid.{points_of}
 use Rattle.algebra.specs.Lists.{Each}
-use Rattle.algebra.proofs.Equal.{not-false}
 use Rattle.rules.specs.Limits.{most_points}
 use Rattle.rules.specs.Hull.{rightward, leftward}
 use Rattle.rules.specs.Layout.{over}

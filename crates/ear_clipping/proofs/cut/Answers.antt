@@ -6,7 +6,6 @@ use Rattle.rules.specs.Grid.{points_of}
 use Rattle.rules.specs.Limits.{most_points}
 use Rattle.rules.proofs.Coordinates.{point_fits}
 use Rattle.blocking.proofs.Flats.{none_flat}
-use borrow.Author.Rules.{rules}
 use Rattle.ear_clipping.proofs.cut.Goals as goal
 
 pub point_at-first-requires : goal.point_at-first-requires

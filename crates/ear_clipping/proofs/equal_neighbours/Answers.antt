@@ -1,9 +1,7 @@
-use Prim.Native.Nat.{◌-◌}
 use native.Mathlib.Omega.{arith}
-use Rattle.rules.specs.Grid.{points_of}
 use Rattle.rules.proofs.Coordinates.{within, past, point_fits}
-use Rattle.grid.proofs.Walks.{Walk, walk_first, walk_here, walk_more, walk_last}
-use Rattle.ear_clipping.proofs.Neighbours.{Apart, all_edges, edge_equal, edge_more, edge_last}
+use Rattle.grid.proofs.Walks.{walk_first, walk_here, walk_more, walk_last}
+use Rattle.ear_clipping.proofs.Neighbours.{all_edges, edge_equal, edge_more, edge_last}
 use Rattle.ear_clipping.proofs.equal_neighbours.Goals as goal
 
 pub point_at-first-requires : goal.point_at-first-requires

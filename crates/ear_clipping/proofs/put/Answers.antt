@@ -4,7 +4,6 @@ use mathlib.Core.Path.{◌≡◌}
 use mathlib.Core.List.{List}
 use lib.ListN.{set}
 use Rattle.ear_clipping.specs.Store.{put3}
-use borrow.Author.Rules.{rules}
 use Rattle.ear_clipping.proofs.put.Goals as goal
 
 is : (l : List ℕ) (k a b c a' c' : ℕ) → a ≡ a' → c ≡ c' → set (set (set l k a) (k + 1) b) (k + 2) c ≡ put3 l k a' b c'

@@ -4,7 +4,6 @@ use mathlib.Core.Path.{sym, ◌∙◌}
 use Rattle.rules.proofs.Coordinates.{points-length}
 use Rattle.rules.proofs.Accepted.{ready}
 use Rattle.ear_clipping.proofs.Entry.{refused, without-ear, with-triangles}
-use borrow.Author.Rules.{rules}
 use Rattle.ear_clipping.proofs.triangulate_ear_clipping.Goals as goal
 
 pub returns-then-number-ne0 : goal.returns-then-number-ne0

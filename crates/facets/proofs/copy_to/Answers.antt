@@ -1,9 +1,8 @@
-use Prim.Native.Nat.{◌-◌, ◌+◌, ◌≤◌, ◌<◌}
+use Prim.Native.Nat.{◌+◌, ◌<◌}
 use native.Mathlib.Omega.{arith}
-use mathlib.Core.Path.{◌≡◌, refl}
-use borrow.Author.Rules.{rules}
+use mathlib.Core.Path.{refl}
 use lib.ListN.{length, length-set}
-use Rattle.facets.proofs.Stores.{Copied, none_copied, one_copied, all_copied}
+use Rattle.facets.proofs.Stores.{none_copied, one_copied, all_copied}
 use Rattle.facets.proofs.copy_to.Goals as goal
 
 pub loop-i-init : goal.loop-i-init

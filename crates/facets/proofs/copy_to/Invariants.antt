@@ -1,10 +1,8 @@
 -- `copy_to` meets its contract. The invariant: the first i numbers are copied.
-use Prim.Native.Nat.{◌-◌, ◌+◌, ◌≤◌, ◌<◌}
-use native.Mathlib.Omega.{arith}
-use mathlib.Core.Path.{◌≡◌, refl}
-use borrow.Author.Rules.{rules}
-use lib.ListN.{length, length-set}
-use Rattle.facets.proofs.Stores.{Copied, none_copied, one_copied, all_copied}
+use Prim.Native.Nat.{◌-◌, ◌≤◌}
+use mathlib.Core.Path.{◌≡◌}
+use lib.ListN.{length}
+use Rattle.facets.proofs.Stores.{Copied}
 use Rattle.facets.proofs.copy_to.Given as goal
 
 abbrev pub invariant-loop-i : goal.invariant-loop-i

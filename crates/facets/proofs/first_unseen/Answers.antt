@@ -1,13 +1,5 @@
-use Prim.Native.Nat.{◌-◌, ◌≤◌}
 use native.Mathlib.Omega.{arith}
-use mathlib.Core.Path.{◌≡◌}
-use mathlib.Core.List.{List}
-use borrow.Author.Rules.{rules}
-use lib.ListN.{length}
-use Rattle.hulls.specs.Rounds.{Facet}
-use Rattle.facets.specs.Laid.{laid}
-use Rattle.facets.proofs.Facets.{Low}
-use Rattle.facets.proofs.Firsts.{Passing, passing_none, passing_more, passing_found, passing_end}
+use Rattle.facets.proofs.Firsts.{passing_none, passing_more, passing_found, passing_end}
 use Rattle.facets.proofs.first_unseen.Goals as goal
 
 pub loop-p-init : goal.loop-p-init

@@ -1,14 +1,12 @@
 -- `first_unseen` meets its contract. The invariant: whatever facets the ring is laid of, those in front of place p are seen.
 use Prim.Native.Nat.{◌-◌, ◌≤◌}
-use native.Mathlib.Omega.{arith}
 use mathlib.Core.Path.{◌≡◌}
 use mathlib.Core.List.{List}
-use borrow.Author.Rules.{rules}
 use lib.ListN.{length}
 use Rattle.hulls.specs.Rounds.{Facet}
 use Rattle.facets.specs.Laid.{laid}
 use Rattle.facets.proofs.Facets.{Low}
-use Rattle.facets.proofs.Firsts.{Passing, passing_none, passing_more, passing_found, passing_end}
+use Rattle.facets.proofs.Firsts.{Passing}
 use Rattle.facets.proofs.first_unseen.Given as goal
 
 abbrev pub invariant-loop-p : goal.invariant-loop-p

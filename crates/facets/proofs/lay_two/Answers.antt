@@ -1,13 +1,10 @@
 -- `lay_two` meets its contract.
-use Prim.Native.Nat.{ℕ, ◌+◌, ◌≤◌, ◌<◌}
+use Prim.Native.Nat.{◌+◌, ◌≤◌, ◌<◌}
 use native.Mathlib.Omega.{arith}
 use mathlib.Core.Path.{◌≡◌, ◌∙◌}
-use mathlib.Core.List.{List}
-use borrow.Author.Rules.{rules}
 use lib.ListN.{length, take, length-set}
 use Rattle.rules.specs.Grid.{points_of}
 use Rattle.rules.specs.Limits.{most_points}
-use Rattle.rules.specs.Plane.{Pt}
 use Rattle.rules.specs.Hull.{before}
 use Rattle.rules.proofs.Coordinates.{point_fits}
 use Rattle.seeing.specs.Seeing.{seeing}

@@ -1,8 +1,5 @@
-use Prim.Native.Nat.{◌-◌, ◌≤◌}
 use native.Mathlib.Omega.{arith}
-use borrow.Author.Rules.{rules}
-use lib.ListN.{length}
-use Rattle.facets.proofs.Stores.{Led, led_first, led_more, led_marked, led_end}
+use Rattle.facets.proofs.Stores.{led_first, led_more, led_marked, led_end}
 use Rattle.facets.proofs.list_end.Goals as goal
 
 pub loop-q-init : goal.loop-q-init

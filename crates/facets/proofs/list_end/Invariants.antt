@@ -1,9 +1,7 @@
 -- `list_end` meets its contract. The invariant: from place p up to place q all are unmarked.
 use Prim.Native.Nat.{◌-◌, ◌≤◌}
-use native.Mathlib.Omega.{arith}
-use borrow.Author.Rules.{rules}
 use lib.ListN.{length}
-use Rattle.facets.proofs.Stores.{Led, led_first, led_more, led_marked, led_end}
+use Rattle.facets.proofs.Stores.{Led}
 use Rattle.facets.proofs.list_end.Given as goal
 
 abbrev pub invariant-loop-q : goal.invariant-loop-q

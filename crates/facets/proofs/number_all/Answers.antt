@@ -1,8 +1,7 @@
-use Prim.Native.Nat.{◌-◌, ◌≤◌, ◌<◌}
+use Prim.Native.Nat.{◌<◌}
 use native.Mathlib.Omega.{arith}
 use mathlib.Core.Path.{◌≡◌, refl}
-use lib.ListN.{length, take, length-set}
-use Rattle.algebra.specs.Lists.{count_from}
+use lib.ListN.{length, length-set}
 use Rattle.facets.proofs.Stores.{one_counted}
 use Rattle.facets.proofs.number_all.Goals as goal
 

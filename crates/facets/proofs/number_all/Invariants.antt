@@ -1,10 +1,8 @@
 -- `number_all` meets its contract. The invariant: the numbers below i are written.
-use Prim.Native.Nat.{◌-◌, ◌≤◌, ◌<◌}
-use native.Mathlib.Omega.{arith}
-use mathlib.Core.Path.{◌≡◌, refl}
-use lib.ListN.{length, take, length-set}
+use Prim.Native.Nat.{◌-◌, ◌≤◌}
+use mathlib.Core.Path.{◌≡◌}
+use lib.ListN.{length, take}
 use Rattle.algebra.specs.Lists.{count_from}
-use Rattle.facets.proofs.Stores.{one_counted}
 use Rattle.facets.proofs.number_all.Given as goal
 
 abbrev pub invariant-loop-i : goal.invariant-loop-i

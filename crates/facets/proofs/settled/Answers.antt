@@ -1,8 +1,4 @@
-use Prim.Native.Nat.{◌-◌}
-use native.Mathlib.Omega.{arith}
-use borrow.Author.Rules.{rules}
-use lib.ListN.{length}
-use Rattle.facets.proofs.Stores.{Passed, passed_first, passed_more, passed-unmarked, passed-all}
+use Rattle.facets.proofs.Stores.{passed_first, passed_more, passed-unmarked, passed-all}
 use Rattle.facets.proofs.settled.Goals as goal
 
 pub loop-i-init : goal.loop-i-init

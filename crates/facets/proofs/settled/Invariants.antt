@@ -1,9 +1,7 @@
 -- `settled` meets its contract. The invariant: up to place i all are marked.
 use Prim.Native.Nat.{◌-◌}
-use native.Mathlib.Omega.{arith}
-use borrow.Author.Rules.{rules}
 use lib.ListN.{length}
-use Rattle.facets.proofs.Stores.{Passed, passed_first, passed_more, passed-unmarked, passed-all}
+use Rattle.facets.proofs.Stores.{Passed}
 use Rattle.facets.proofs.settled.Given as goal
 
 abbrev pub invariant-loop-i : goal.invariant-loop-i

@@ -1,12 +1,10 @@
 -- `split` meets its contract.
-use Prim.Native.Nat.{ℕ, ◌<◌}
+use Prim.Native.Nat.{◌<◌}
 use native.Mathlib.Omega.{arith}
 use mathlib.Core.Path.{◌≡◌, ◌∙◌, ap}
-use mathlib.Core.List.{List}
-use borrow.Author.Rules.{rules}
 use lib.ListN.{length}
 use Rattle.rules.specs.Grid.{points_of}
-use Rattle.rules.specs.Plane.{Pt, point}
+use Rattle.rules.specs.Plane.{point}
 use Rattle.rules.specs.Hull.{normal}
 use Rattle.rules.proofs.Coordinates.{point_fits}
 use Rattle.seeing.specs.Seeing.{farthest_of}

@@ -1,15 +1,13 @@
 -- `sweep` meets its contract. The invariant: whatever facets the ring is laid of, those in front of place p are swept.
-use Prim.Native.Nat.{◌+◌, ◌-◌, ◌≤◌, ◌<◌}
-use native.Mathlib.Omega.{arith}
-use mathlib.Core.Path.{◌≡◌, refl, ◌∙◌, ap}
+use Prim.Native.Nat.{◌-◌, ◌≤◌}
+use mathlib.Core.Path.{◌≡◌}
 use mathlib.Core.List.{List}
-use borrow.Author.Rules.{rules}
-use lib.ListN.{length, take, drop}
+use lib.ListN.{length}
 use Rattle.rules.specs.Grid.{points_of}
 use Rattle.rules.specs.Limits.{most_points}
 use Rattle.hulls.specs.Rounds.{Facet}
-use Rattle.facets.specs.Laid.{corner_of, Held}
-use Rattle.facets.proofs.Sweeping.{Sweeping, Ready, sweeping_first, sweeping_last, corner_marked, next_high, ready}
+use Rattle.facets.specs.Laid.{Held}
+use Rattle.facets.proofs.Sweeping.{Sweeping}
 use Rattle.facets.proofs.sweep.Given as goal
 
 abbrev pub invariant-loop-p : goal.invariant-loop-p

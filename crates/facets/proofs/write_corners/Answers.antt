@@ -2,7 +2,6 @@ use Prim.Native.Nat.{ℕ, ◌-◌, ◌+◌, ◌≤◌, ◌<◌}
 use native.Mathlib.Omega.{arith}
 use mathlib.Core.Path.{◌≡◌, refl, sym, ◌∙◌, ap}
 use mathlib.Core.List.{List, ◌++◌, map}
-use borrow.Author.Rules.{rules}
 use lib.ListN.{length, get_or, set, take, drop, length-set, length-map, get_or-map}
 use Rattle.algebra.proofs.Lists.{each_at}
 use Rattle.rules.specs.Layout.{over}

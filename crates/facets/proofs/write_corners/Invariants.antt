@@ -1,13 +1,8 @@
 -- `write_corners` meets its contract. The invariant: the first i corners are written.
-use Prim.Native.Nat.{ℕ, ◌-◌, ◌+◌, ◌≤◌, ◌<◌}
-use native.Mathlib.Omega.{arith}
-use mathlib.Core.Path.{◌≡◌, refl, sym, ◌∙◌, ap}
-use mathlib.Core.List.{List, ◌++◌, map}
-use borrow.Author.Rules.{rules}
-use lib.ListN.{length, get_or, set, take, drop, length-set, length-map, get_or-map}
-use Rattle.algebra.proofs.Lists.{each_at}
-use Rattle.rules.specs.Layout.{over}
-use Rattle.words.proofs.Copies.{copy_more, copy_end}
+use Prim.Native.Nat.{◌-◌, ◌≤◌}
+use mathlib.Core.Path.{◌≡◌}
+use mathlib.Core.List.{◌++◌, map}
+use lib.ListN.{length, take, drop}
 use Rattle.facets.specs.Laid.{corner_of}
 use Rattle.facets.proofs.write_corners.Given as goal
 

@@ -1,7 +1,6 @@
 -- `cut_line` meets its contract: the line is refused by the reader, or its coordinates are given to the cutter.
 use Prim.Native.Nat.{◌≤◌}
 use native.Mathlib.Omega.{arith}
-use borrow.Author.Rules.{rules}
 use mathlib.Core.Path.{sym}
 use lib.Seq.{length-take-le}
 use Rattle.rules.specs.Limits.{most_points}

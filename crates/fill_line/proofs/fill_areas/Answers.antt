@@ -1,7 +1,6 @@
 -- `fill_areas` meets its contract: what the line's cut refuses, or the merged areas as text.
 use Prim.Native.Nat.{◌+◌, ◌*◌, ◌≤◌}
 use native.Mathlib.Omega.{arith}
-use borrow.Author.Rules.{rules}
 use mathlib.Core.Path.{◌≡◌, sym}
 use lib.ListN.{length, take}
 use lib.Seq.{length-take-le}

@@ -1,6 +1,5 @@
 -- `fill_triangles` meets its contract: what the line's cut refuses, or its triangles, each of three corners, as text.
 use native.Mathlib.Omega.{arith}
-use borrow.Author.Rules.{rules}
 use mathlib.Core.Path.{◌≡◌, sym}
 use lib.ListN.{length}
 use lib.Seq.{length-take-le}

@@ -1,4 +1,3 @@
-use borrow.Author.Rules.{rules}
 use Rattle.fill_line.proofs.Cutting.{lent_none, lent_all}
 use Rattle.fill_line.proofs.lent.Goals as goal
 

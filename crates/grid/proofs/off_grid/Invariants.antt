@@ -1,13 +1,8 @@
 -- `off_grid` meets its contract. The invariant: the whole slice is off the grid where a coordinate before i is, or the part from i on.
-use Prim.Native.Nat.{ℕ, ◌+◌, ◌-◌, ◌≤◌, ◌<◌}
-use mathlib.Core.Path.{◌≡◌, sym, ◌∙◌}
-use mathlib.Core.Bool.{Bool, not, ◌||◌, or-false, or_assoc}
-use mathlib.Core.List.{List}
-use lib.ListN.{length, get_or, drop, drop_of_length-le}
-use lib.Ieee.{Float, nan}
-use borrow.Author.Rules.{rules}
-use Rattle.algebra.proofs.Lists.{any_next}
-use Rattle.rules.specs.Grid.{on_grid}
+use Prim.Native.Nat.{◌-◌, ◌≤◌}
+use mathlib.Core.Path.{◌≡◌}
+use mathlib.Core.Bool.{◌||◌}
+use lib.ListN.{length, drop}
 use Rattle.rules.specs.Refusals.{off_grid}
 use Rattle.grid.proofs.off_grid.Given as goal
 

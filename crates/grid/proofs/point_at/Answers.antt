@@ -1,6 +1,5 @@
 -- `point_at` meets its contract.
 use mathlib.Core.Path.{refl}
-use borrow.Author.Rules.{rules}
 use Rattle.grid.proofs.Triangle.{point-on}
 use Rattle.grid.proofs.point_at.Goals as goal
 

@@ -1,6 +1,5 @@
 -- `ask` meets its contract.
 use Rattle.hasplight.proofs.Asked.{asked-told}
-use borrow.Author.Rules.{rules}
 use Rattle.hasplight.proofs.ask.Goals as goal
 
 pub returns : goal.returns

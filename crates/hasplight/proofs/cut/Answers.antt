@@ -4,7 +4,6 @@ use mathlib.Core.Path.{sym}
 use lib.Seq.{length-take-le}
 use Rattle.hasplight.proofs.Lending.{words_kept, room_for, gives}
 use Rattle.hasplight.proofs.Cutting.{cut_reports, cut_need}
-use borrow.Author.Rules.{rules}
 use Rattle.hasplight.proofs.cut.Goals as goal
 
 pub slice_bounds-triangulate_ear_clipping-end : goal.slice_bounds-triangulate_ear_clipping-end

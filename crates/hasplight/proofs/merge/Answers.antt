@@ -3,7 +3,6 @@ use native.Mathlib.Omega.{arith}
 use mathlib.Core.Path.{sym}
 use lib.Seq.{length-take-le}
 use Rattle.hasplight.proofs.Merging.{Lent, out_kept, sizes_kept, corners_fit, lengths_fit, merge_kept}
-use borrow.Author.Rules.{rules}
 use Rattle.hasplight.proofs.merge.Goals as goal
 
 pub slice_bounds-hertel_mehlhorn_idx-end : goal.slice_bounds-hertel_mehlhorn_idx-end

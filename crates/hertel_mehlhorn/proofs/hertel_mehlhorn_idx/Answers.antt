@@ -3,7 +3,6 @@ use mathlib.Core.Path.{sym, ◌∙◌}
 use native.Mathlib.Omega.{arith}
 use Rattle.rules.proofs.Accepted.{in_range}
 use Rattle.hertel_mehlhorn.proofs.Entry.{refused, merged}
-use borrow.Author.Rules.{rules}
 use Rattle.hertel_mehlhorn.proofs.hertel_mehlhorn_idx.Goals as goal
 
 pub returns-then-number-ne0 : goal.returns-then-number-ne0

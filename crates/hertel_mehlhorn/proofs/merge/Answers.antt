@@ -1,14 +1,10 @@
-use Prim.Native.Nat.{◌+◌, ◌-◌, ◌≤◌, ◌<◌}
+use Prim.Native.Nat.{◌+◌, ◌≤◌, ◌<◌}
 use native.Mathlib.Omega.{arith}
-use borrow.Author.Rules.{rules}
 use mathlib.Core.Path.{◌≡◌}
 use lib.ListN.{length, length-take, length-drop}
 use Rattle.algebra.proofs.Lists.{each_imp}
-use Rattle.rules.specs.Grid.{points_of}
-use Rattle.rules.specs.Merge.{may_join}
-use Rattle.rules.specs.Layout.{triples}
 use Rattle.joins.specs.Ring.{Sized}
-use Rattle.hertel_mehlhorn.proofs.Merging.{Work, work_first, out_size, lens_size, work_next, fits, work_done}
+use Rattle.hertel_mehlhorn.proofs.Merging.{work_first, out_size, lens_size, work_next, fits, work_done}
 use Rattle.hertel_mehlhorn.proofs.merge.Goals as goal
 
 pub read_triangles-requires : goal.read_triangles-requires

@@ -1,15 +1,10 @@
 -- `merge` meets its contract. The invariant: the pieces in front of number a are finished and written, and the merge is what they are and the merge of the later ones.
-use Prim.Native.Nat.{◌+◌, ◌-◌, ◌≤◌, ◌<◌}
-use native.Mathlib.Omega.{arith}
-use borrow.Author.Rules.{rules}
-use mathlib.Core.Path.{◌≡◌}
-use lib.ListN.{length, length-take, length-drop}
-use Rattle.algebra.proofs.Lists.{each_imp}
+use Prim.Native.Nat.{◌-◌}
+use lib.ListN.{length}
 use Rattle.rules.specs.Grid.{points_of}
 use Rattle.rules.specs.Merge.{may_join}
 use Rattle.rules.specs.Layout.{triples}
-use Rattle.joins.specs.Ring.{Sized}
-use Rattle.hertel_mehlhorn.proofs.Merging.{Work, work_first, out_size, lens_size, work_next, fits, work_done}
+use Rattle.hertel_mehlhorn.proofs.Merging.{Work}
 use Rattle.hertel_mehlhorn.proofs.merge.Given as goal
 
 abbrev pub invariant-loop-a : goal.invariant-loop-a

@@ -1,9 +1,5 @@
-use Prim.Native.Nat.{◌-◌, ◌≤◌}
-use mathlib.Core.Path.{◌≡◌, sym, ◌∙◌}
+use mathlib.Core.Path.{sym, ◌∙◌}
 use native.Mathlib.Omega.{arith}
-use borrow.Author.Rules.{rules}
-use lib.ListN.{length, drop}
-use Rattle.rules.specs.Refusals.{out_of_range}
 use Rattle.hertel_mehlhorn.proofs.Ranges.{range_more, range_out, range_end}
 use Rattle.hertel_mehlhorn.proofs.out_of_range.Goals as goal
 

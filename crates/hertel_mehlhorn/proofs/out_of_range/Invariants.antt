@@ -1,11 +1,8 @@
 -- `out_of_range` meets its contract. The invariant: the indices passed are below n.
 use Prim.Native.Nat.{◌-◌, ◌≤◌}
-use mathlib.Core.Path.{◌≡◌, sym, ◌∙◌}
-use native.Mathlib.Omega.{arith}
-use borrow.Author.Rules.{rules}
+use mathlib.Core.Path.{◌≡◌}
 use lib.ListN.{length, drop}
 use Rattle.rules.specs.Refusals.{out_of_range}
-use Rattle.hertel_mehlhorn.proofs.Ranges.{range_more, range_out, range_end}
 use Rattle.hertel_mehlhorn.proofs.out_of_range.Given as goal
 
 abbrev pub invariant-loop-i : goal.invariant-loop-i

@@ -6,7 +6,6 @@ use mathlib.Core.Bool.{Bool, true, false}
 use mathlib.Core.List.{List, [], ◌∷◌}
 use lib.ListN.{length}
 use lib.Ieee.{Float}
-use borrow.Author.Rules.{rules}
 use borrow.Author.Tests.{lt-ltb, le-ltb}
 use Rattle.rules.specs.Grid.{points_of}
 use Rattle.rules.specs.Refusals.{◌gives◌, first_refusal, short_to_merge, out_of_range, before_triangles, triangle_checks, merger_checks}

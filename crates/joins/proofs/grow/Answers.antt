@@ -1,6 +1,5 @@
-use Prim.Native.Nat.{◌+◌, ◌-◌, ◌*◌, ◌≤◌, ◌<◌}
+use Prim.Native.Nat.{◌+◌, ◌≤◌, ◌<◌}
 use native.Mathlib.Omega.{arith}
-use borrow.Author.Rules.{rules}
 use mathlib.Core.Path.{◌≡◌}
 use lib.ListN.{length}
 use Rattle.rules.specs.Grid.{points_of}
@@ -9,7 +8,7 @@ use Rattle.pieces.proofs.Later.{low}
 use Rattle.joins.specs.Looks.{Looked}
 use Rattle.joins.specs.declared.looks.Look.{Look}
 use Rattle.joins.specs.declared.looks.Look.TheVariants.{Joins}
-use Rattle.joins.proofs.Growing.{Growing, Turn, head_place, looked_is, grow_first, len_low, live_low, readable, grow_lone, grow_refused, piece_range, room, last_low, third_below, grow_joined, finished}
+use Rattle.joins.proofs.Growing.{Turn, head_place, looked_is, grow_first, len_low, live_low, readable, grow_lone, grow_refused, piece_range, room, last_low, third_below, grow_joined, finished}
 use Rattle.joins.proofs.grow.Goals as goal
 
 pub begin-requires : goal.begin-requires

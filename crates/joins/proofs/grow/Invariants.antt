@@ -1,16 +1,9 @@
 -- `grow` meets its contract. The invariant: the merge of the pieces is that of A, joined so far, and the later pieces; and the queue holds the places that still may have a join.
-use Prim.Native.Nat.{◌+◌, ◌-◌, ◌*◌, ◌≤◌, ◌<◌}
-use native.Mathlib.Omega.{arith}
-use borrow.Author.Rules.{rules}
-use mathlib.Core.Path.{◌≡◌}
+use Prim.Native.Nat.{◌+◌, ◌-◌, ◌*◌}
 use lib.ListN.{length}
 use Rattle.rules.specs.Grid.{points_of}
 use Rattle.rules.specs.Merge.{may_join}
-use Rattle.pieces.proofs.Later.{low}
-use Rattle.joins.specs.Looks.{Looked}
-use Rattle.joins.specs.declared.looks.Look.{Look}
-use Rattle.joins.specs.declared.looks.Look.TheVariants.{Joins}
-use Rattle.joins.proofs.Growing.{Growing, Turn, head_place, looked_is, grow_first, len_low, live_low, readable, grow_lone, grow_refused, piece_range, room, last_low, third_below, grow_joined, finished}
+use Rattle.joins.proofs.Growing.{Growing}
 use Rattle.joins.proofs.grow.Given as goal
 
 abbrev pub invariant-loop-refused : goal.invariant-loop-refused

@@ -1,7 +1,5 @@
-use Prim.Native.Nat.{◌-◌}
 use native.Mathlib.Omega.{arith}
-use lib.ListN.{length}
-use Rattle.lines.proofs.Keeping.{Kept, kept_none, kept_more, kept_all, kept_full}
+use Rattle.lines.proofs.Keeping.{kept_none, kept_more, kept_all, kept_full}
 use Rattle.lines.proofs.keep.Goals as goal
 
 pub loop-i-init : goal.loop-i-init

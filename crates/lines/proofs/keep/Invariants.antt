@@ -1,8 +1,7 @@
 -- `keep` meets its contract. The loop's invariant: the first i bytes were put behind those that were carried.
 use Prim.Native.Nat.{◌-◌}
-use native.Mathlib.Omega.{arith}
 use lib.ListN.{length}
-use Rattle.lines.proofs.Keeping.{Kept, kept_none, kept_more, kept_all, kept_full}
+use Rattle.lines.proofs.Keeping.{Kept}
 use Rattle.lines.proofs.keep.Given as goal
 
 abbrev pub invariant-loop-i : goal.invariant-loop-i

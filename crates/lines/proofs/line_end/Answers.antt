@@ -1,7 +1,5 @@
-use Prim.Native.Nat.{◌-◌}
 use native.Mathlib.Omega.{arith}
-use lib.ListN.{length}
-use Rattle.lines.proofs.FirstLine.{Passed, passed_none, passed_more, at_newline, at-end}
+use Rattle.lines.proofs.FirstLine.{passed_none, passed_more, at_newline, at-end}
 use Rattle.lines.proofs.line_end.Goals as goal
 
 pub loop-i-init : goal.loop-i-init

@@ -1,8 +1,7 @@
 -- `line_end` meets its contract. The loop's invariant: no newline stands among the bytes that were passed.
 use Prim.Native.Nat.{◌-◌}
-use native.Mathlib.Omega.{arith}
 use lib.ListN.{length}
-use Rattle.lines.proofs.FirstLine.{Passed, passed_none, passed_more, at_newline, at-end}
+use Rattle.lines.proofs.FirstLine.{Passed}
 use Rattle.lines.proofs.line_end.Given as goal
 
 abbrev pub invariant-loop-i : goal.invariant-loop-i

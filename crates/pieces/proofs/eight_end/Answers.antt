@@ -1,7 +1,6 @@
 -- `eight_end` meets its contract.
 use native.Mathlib.Omega.{arith}
 use Rattle.pieces.proofs.Searching.{behind_none}
-use borrow.Author.Rules.{rules}
 use Rattle.pieces.proofs.eight_end.Goals as goal
 
 pub returns-else-in_eight : goal.returns-else-in_eight

@@ -1,8 +1,7 @@
-use Prim.Native.Nat.{◌+◌, ◌-◌, ◌≤◌, ◌<◌}
+use Prim.Native.Nat.{◌+◌, ◌<◌}
 use native.Mathlib.Omega.{arith}
-use borrow.Author.Rules.{rules}
 use mathlib.Core.Path.{sym, ◌∙◌}
-use Rattle.pieces.proofs.Searching.{Asked, Seeking, Within, passed_enter, passed-piece, passed_edge, seek_first, skip_low, seek_skip, seek_next, seek_none, found_at}
+use Rattle.pieces.proofs.Searching.{Asked, passed_enter, passed-piece, passed_edge, seek_first, skip_low, seek_skip, seek_next, seek_none, found_at}
 use Rattle.pieces.proofs.find_mate.Goals as goal
 
 pub search-init : goal.search-init

@@ -1,9 +1,6 @@
 -- `find_mate` meets its contract. The outer loop's invariant says that the eights passed hold no mate, the inner ones' that the pieces and the corners passed hold none.
-use Prim.Native.Nat.{◌+◌, ◌-◌, ◌≤◌, ◌<◌}
-use native.Mathlib.Omega.{arith}
-use borrow.Author.Rules.{rules}
-use mathlib.Core.Path.{sym, ◌∙◌}
-use Rattle.pieces.proofs.Searching.{Asked, Seeking, Within, passed_enter, passed-piece, passed_edge, seek_first, skip_low, seek_skip, seek_next, seek_none, found_at}
+use Prim.Native.Nat.{◌-◌, ◌≤◌, ◌<◌}
+use Rattle.pieces.proofs.Searching.{Seeking, Within}
 use Rattle.pieces.proofs.find_mate.Given as goal
 
 abbrev pub invariant-loop-j : goal.invariant-loop-j

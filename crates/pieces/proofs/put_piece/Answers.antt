@@ -3,7 +3,6 @@ use Prim.Native.Nat.{ℕ}
 use mathlib.Core.Path.{◌≡◌, refl}
 use mathlib.Core.List.{List}
 use Rattle.pieces.specs.Pieces.{start_of, put_piece, show, shows}
-use borrow.Author.Rules.{rules}
 use Rattle.pieces.proofs.put_piece.Goals as goal
 
 shown :

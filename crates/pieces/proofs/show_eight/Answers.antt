@@ -6,7 +6,6 @@ use lib.Bits.{bit_or}
 use lib.ListN.{get_or, set}
 use Rattle.pieces.specs.Pieces.{show}
 use Rattle.algebra.proofs.Bits.{one_shifted}
-use borrow.Author.Rules.{rules}
 use Rattle.pieces.proofs.show_eight.Goals as goal
 
 pub returns : goal.returns

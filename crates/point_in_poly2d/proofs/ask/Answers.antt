@@ -1,6 +1,5 @@
 -- `ask` meets its promise, for either test.
 use mathlib.Core.Path.{refl, ◌∙◌}
-use borrow.Author.Rules.{rules}
 use Rattle.point_in_poly2d.proofs.Asked.{refused, accepted_answer, accepted}
 use Rattle.point_in_poly2d.proofs.ask.Goals as goal
 

@@ -1,7 +1,6 @@
 -- `crosses` meets its contract.
 use mathlib.Core.Path.{◌≡◌, refl}
 use mathlib.Core.Bool.{Bool, true, false}
-use borrow.Author.Rules.{rules}
 use Rattle.point_in_poly2d.specs.Edges.{by_heights}
 use Rattle.point_in_poly2d.proofs.crosses.Goals as goal
 

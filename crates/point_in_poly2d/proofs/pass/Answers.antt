@@ -1,6 +1,5 @@
 -- `pass` meets its contract.
 use lib.Ieee.{of_bits}
-use borrow.Author.Rules.{rules}
 use Rattle.point_in_poly2d.proofs.Crossings.{passed_side, passed_edge}
 use Rattle.point_in_poly2d.proofs.pass.Goals as goal
 

@@ -2,7 +2,6 @@
 use Rattle.rules.proofs.Rows.{front_gives}
 use Rattle.rules.proofs.Fronts.{asked-front}
 use Rattle.point_in_poly2d.proofs.Asked.{spot_decides}
-use borrow.Author.Rules.{rules}
 use Rattle.point_in_poly2d.proofs.refusal.Goals as goal
 
 pub returns-then-number-ne0 : goal.returns-then-number-ne0

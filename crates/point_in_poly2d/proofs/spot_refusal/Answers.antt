@@ -7,7 +7,6 @@ use borrow.Author.Tests.{not-true, not-false}
 use Rattle.rules.specs.Grid.{on_grid}
 use Rattle.rules.specs.Refusals.{◌gives◌, first_refusal, off_grid}
 use Rattle.rules.proofs.Rows.{row_on, row_off, no_rows}
-use borrow.Author.Rules.{rules}
 use Rattle.point_in_poly2d.proofs.spot_refusal.Goals as goal
 
 module _ (x y : Float) where

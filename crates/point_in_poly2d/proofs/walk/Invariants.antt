@@ -1,15 +1,7 @@
 -- `walk` meets its contract. The invariant: what was seen so far, with the edges that are left, says what the test says.
-use Prim.Native.Nat.{◌-◌, ◌/◌}
-use mathlib.Core.Path.{◌∙◌, ap}
-use native.Mathlib.Omega.{arith}
-use borrow.Author.Rules.{rules}
-use lib.ListN.{length}
+use Prim.Native.Nat.{◌-◌}
 use Rattle.rules.specs.Grid.{points_of}
-use Rattle.rules.proofs.Coordinates.{points-length, within, past}
-use Rattle.grid.specs.Points.{pt_of}
-use Rattle.point_in_poly2d.specs.Verdicts.{answered}
-use Rattle.point_in_poly2d.proofs.Crossings.{no_edges}
-use Rattle.point_in_poly2d.proofs.Ring.{Passing, passing_first, passing_more, passing_end}
+use Rattle.point_in_poly2d.proofs.Ring.{Passing}
 use Rattle.point_in_poly2d.proofs.walk.Given as goal
 
 abbrev pub invariant-loop-i : goal.invariant-loop-i

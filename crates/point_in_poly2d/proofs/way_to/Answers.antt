@@ -1,7 +1,6 @@
 -- `way_to` meets its contract.
 use native.Mathlib.Omega.{arith}
 use Rattle.rules.proofs.Coordinates.{points-length}
-use borrow.Author.Rules.{rules}
 use Rattle.point_in_poly2d.proofs.way_to.Goals as goal
 
 pub point_at-requires : goal.point_at-requires

@@ -1,5 +1,5 @@
 -- `direction` meets its contract.
-use Rattle.std.proofs.Common.{◌≡◌, ◌∙◌, rules}
+use Rattle.std.proofs.Common.{◌≡◌, ◌∙◌}
 use lib.Ieee.{Float, binary32, mul}
 use Rattle.root.proofs.direction.Goals as goal
 

@@ -1,5 +1,5 @@
 -- `pointiness` meets its contract.
-use Rattle.std.proofs.Common.{◌∙◌, rules}
+use Rattle.std.proofs.Common.{◌∙◌}
 use Rattle.rules.specs.Plane.{minus}
 use Rattle.grid.specs.Points.{pt_of}
 use Rattle.root.proofs.Length.{pointiness_of}

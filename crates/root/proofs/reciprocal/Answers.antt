@@ -1,5 +1,5 @@
 -- `reciprocal` meets its contract: the square of the length is a whole number, and so its root is the rules'.
-use Rattle.std.proofs.Common.{◌≡◌, T, nat_abs, ap, ◌∙◌, rules}
+use Rattle.std.proofs.Common.{◌≡◌, T, nat_abs, ap, ◌∙◌}
 use lib.Ieee.{of_bits, binary32, in_unsigned, to_unsigned}
 use Rattle.rules.specs.Plane.{minus}
 use Rattle.rules.specs.Root.{root as root_of}

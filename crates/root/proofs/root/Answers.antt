@@ -1,5 +1,5 @@
 -- `root` meets its contract.
-use Rattle.std.proofs.Common.{◌≡◌, ℕ, ◌<◌, sym, ap, ◌∙◌, arith, rules}
+use Rattle.std.proofs.Common.{◌≡◌, ℕ, ◌<◌, sym, ap, ◌∙◌, arith}
 use lib.Ieee.{of_bits}
 use Rattle.rules.specs.Root.{root as root_of}
 use Rattle.rules.proofs.Root.{root_zero}

@@ -1,5 +1,5 @@
 -- `scale` meets its contract: m has 32 - z binary digits, z the count of its leading zeros.
-use Rattle.std.proofs.Common.{◌≡◌, ℕ, suc, ◌-◌, ◌/◌, ◌^◌, ◌<◌, ◌≤◌, lt_of_not-le, arith, pow_mono, rules}
+use Rattle.std.proofs.Common.{◌≡◌, ℕ, suc, ◌-◌, ◌/◌, ◌^◌, ◌<◌, ◌≤◌, lt_of_not-le, arith, pow_mono}
 use lib.Count.{count_leading_zeros, leading_top}
 use Rattle.rules.specs.Root.{Scaled}
 use Rattle.rules.proofs.Scale.{scaled_by}

@@ -1,5 +1,5 @@
 -- `scaled` meets its contract.
-use Rattle.std.proofs.Common.{◌≤◌, arith, rules}
+use Rattle.std.proofs.Common.{◌≤◌, arith}
 use Rattle.rules.proofs.Scale.{scale_low, scale_high}
 use Rattle.root.proofs.Shift.{scaled_shl}
 use Rattle.root.proofs.scaled.Goals as goal

@@ -1,12 +1,7 @@
-use Prim.Native.Nat.{◌-◌, ◌≤◌}
 use native.Mathlib.Omega.{arith}
 use mathlib.Core.Path.{refl}
-use borrow.Author.Rules.{rules}
-use lib.ListN.{length}
-use Rattle.rules.specs.Grid.{points_of}
-use Rattle.rules.specs.Plane.{Pt}
-use Rattle.seeing.proofs.Exact.{Directed, normal_directed, far_is}
-use Rattle.seeing.proofs.Scans.{there, Best, best-first, best_farther, best-stays, best-last}
+use Rattle.seeing.proofs.Exact.{normal_directed, far_is}
+use Rattle.seeing.proofs.Scans.{there, best-first, best_farther, best-stays, best-last}
 use Rattle.seeing.proofs.farthest.Goals as goal
 use Rattle.seeing.proofs.farthest.Goals.{then-most-far, else-most-far}
 

@@ -1,14 +1,10 @@
 -- `farthest` meets its contract. The invariant: of the points that were passed, `best` is the farthest, whatever direction the normal is.
 use Prim.Native.Nat.{◌-◌, ◌≤◌}
-use native.Mathlib.Omega.{arith}
-use mathlib.Core.Path.{refl}
-use mathlib.Core.Logic.{inl, inr}
-use borrow.Author.Rules.{rules}
 use lib.ListN.{length}
 use Rattle.rules.specs.Grid.{points_of}
 use Rattle.rules.specs.Plane.{Pt}
-use Rattle.seeing.proofs.Exact.{Directed, normal_directed, far_is}
-use Rattle.seeing.proofs.Scans.{there, Best, best-first, best_farther, best-stays, best-last}
+use Rattle.seeing.proofs.Exact.{Directed}
+use Rattle.seeing.proofs.Scans.{Best}
 use Rattle.seeing.proofs.farthest.Given as goal
 
 abbrev pub invariant-loop-i : goal.invariant-loop-i

@@ -1,18 +1,13 @@
-use Prim.Native.Nat.{ℕ, ◌-◌, ◌≤◌, ◌<◌}
+use Prim.Native.Nat.{ℕ, ◌≤◌, ◌<◌}
 use native.Mathlib.Omega.{arith}
-use mathlib.Core.Path.{◌≡◌, refl, ◌∙◌, ap}
-use borrow.Author.Rules.{rules}
+use mathlib.Core.Path.{refl, ◌∙◌, ap}
 use lib.ListN.{length, length-set}
-use lib.Ieee.{Float}
 use Rattle.rules.specs.Grid.{points_of}
 use Rattle.rules.specs.Limits.{most_points}
-use Rattle.rules.specs.Plane.{Pt, point, right}
-use Rattle.rules.specs.Hull.{dot, normal}
-use Rattle.grid.specs.declared.point.Point.{Point}
+use Rattle.rules.specs.Plane.{point, right}
 use Rattle.grid.specs.Points.{pt_of}
-use Rattle.grid.proofs.Value.{Is}
-use Rattle.seeing.proofs.Exact.{Directed, normal_directed, far_is, sees_is}
-use Rattle.seeing.proofs.Scans.{there, Kept, kept_none, kept_fits, kept_more, kept_all}
+use Rattle.seeing.proofs.Exact.{normal_directed, far_is, sees_is}
+use Rattle.seeing.proofs.Scans.{there, kept_none, kept_fits, kept_more, kept_all}
 use Rattle.seeing.proofs.keep_seeing.Invariants.{Facing}
 use Rattle.seeing.proofs.keep_seeing.Goals as goal
 

@@ -1,19 +1,15 @@
 -- `keep_seeing` meets its contract. The invariant: of the points that were passed, those that see the facet are written.
-use Prim.Native.Nat.{ℕ, ◌-◌, ◌≤◌, ◌<◌}
-use native.Mathlib.Omega.{arith}
-use mathlib.Core.Path.{◌≡◌, refl, ◌∙◌, ap}
-use borrow.Author.Rules.{rules}
-use lib.ListN.{length, length-set}
+use Prim.Native.Nat.{◌-◌}
+use mathlib.Core.Path.{◌≡◌}
+use lib.ListN.{length}
 use lib.Ieee.{Float}
 use Rattle.rules.specs.Grid.{points_of}
-use Rattle.rules.specs.Limits.{most_points}
-use Rattle.rules.specs.Plane.{Pt, point, right}
+use Rattle.rules.specs.Plane.{Pt}
 use Rattle.rules.specs.Hull.{dot, normal}
 use Rattle.grid.specs.declared.point.Point.{Point}
-use Rattle.grid.specs.Points.{pt_of}
 use Rattle.grid.proofs.Value.{Is}
-use Rattle.seeing.proofs.Exact.{Directed, normal_directed, far_is, sees_is}
-use Rattle.seeing.proofs.Scans.{there, Kept, kept_none, kept_fits, kept_more, kept_all}
+use Rattle.seeing.proofs.Exact.{Directed}
+use Rattle.seeing.proofs.Scans.{Kept}
 use Rattle.seeing.proofs.keep_seeing.Given as goal
 
 -- n is the normal of the facet from a to b, and a is as far in its direction as the limit

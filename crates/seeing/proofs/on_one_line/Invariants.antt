@@ -1,22 +1,10 @@
 -- `on_one_line` meets its contract. The invariant: the points that were passed are on the line through a and b.
-use Prim.Native.Nat.{ℕ, ◌-◌, ◌+◌, ◌<◌}
-use native.Mathlib.Omega.{arith}
-use native.Mathlib.Nat.{lt_of_lt_of_le}
-use native.Mathlib.Decide.{ℕ_discrete}
-use mathlib.Core.Path.{◌≡◌, sym, subst}
+use Prim.Native.Nat.{ℕ, ◌-◌, ◌<◌}
+use mathlib.Core.Path.{◌≡◌}
 use mathlib.Core.List.{List}
-use borrow.Author.Rules.{rules}
-use lib.ListN.{length}
 use lib.IntN.{pos}
 use Rattle.rules.specs.Grid.{points_of}
 use Rattle.rules.specs.Plane.{Pt, point, turn}
-use Rattle.rules.specs.Hull.{dot, rightward, leftward, normal}
-use Rattle.rules.proofs.Coordinates.{within, past, point_fits}
-use Rattle.grid.proofs.Value.{Is}
-use Rattle.hulls.proofs.Farthest.{support_in}
-use Rattle.hulls.proofs.Straight.{off_line_one}
-use Rattle.hulls.proofs.Ends.{straight-all}
-use Rattle.seeing.proofs.Exact.{Directed, normal_directed, far_is, straight_is, off_is}
 use Rattle.seeing.proofs.on_one_line.Given as goal
 
 -- the first i points are on the line

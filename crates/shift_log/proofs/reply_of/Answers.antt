@@ -1,6 +1,5 @@
 -- `reply_of` meets its contract.
 use mathlib.Core.Path.{refl}
-use borrow.Author.Rules.{rules}
 use Rattle.shift_log.proofs.reply_of.Goals as goal
 
 pub returns-in-Refused : goal.returns-in-Refused

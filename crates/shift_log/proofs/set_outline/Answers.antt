@@ -2,7 +2,6 @@
 use native.Mathlib.Omega.{arith}
 use Prim.Native.Nat.{◌≤◌}
 use mathlib.Core.Path.{sym, subst}
-use borrow.Author.Rules.{rules}
 use Rattle.rules.specs.Limits.{most_points}
 use Rattle.rules.specs.Text.{bytes}
 use Rattle.wkt.specs.Reads.{OutlineRead}

@@ -1,5 +1,4 @@
 -- `step` meets its promise.
-use borrow.Author.Rules.{rules}
 use mathlib.Core.Path.{ap, ◌∙◌}
 use Rattle.shift_log.specs.Promise.{reply_of}
 use Rattle.shift_log.proofs.Steps.{step-point}

@@ -1,6 +1,5 @@
 -- `told` meets its contract.
 use mathlib.Core.Path.{sym}
-use borrow.Author.Rules.{rules}
 use lib.Seq.{length-take-le}
 use Rattle.shift_log.proofs.Stepping.{told_by_lem}
 use Rattle.shift_log.proofs.told.Goals as goal

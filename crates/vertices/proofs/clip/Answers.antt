@@ -3,10 +3,9 @@ use Prim.Native.Nat.{◌<◌}
 use native.Mathlib.Omega.{arith}
 use Rattle.rules.specs.Grid.{points_of}
 use Rattle.winners.specs.Keys.{no}
-use Rattle.vertices.specs.Vertices.{Vertices, state, place, AtCorner}
+use Rattle.vertices.specs.Vertices.{state, place, AtCorner}
 use Rattle.vertices.proofs.Corners.{proper}
 use Rattle.vertices.proofs.Steps.{at_before, at_after, clip_is}
-use borrow.Author.Rules.{rules}
 use Rattle.vertices.proofs.clip.Goals as goal
 
 pub unlink-requires : goal.unlink-requires

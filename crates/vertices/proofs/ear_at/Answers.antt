@@ -8,7 +8,6 @@ use Rattle.winners.specs.declared.Ear.{Ear}
 use Rattle.vertices.specs.Ears.{ear_of}
 use Rattle.vertices.specs.Vertices.{place, linked_corner}
 use mathlib.Core.Path.{◌∙◌}
-use borrow.Author.Rules.{rules}
 use Rattle.vertices.proofs.ear_at.Goals as goal
 
 -- the ear that was found is that of the linked corner

@@ -1,7 +1,5 @@
-use Prim.Native.Nat.{◌-◌, ◌≤◌}
 use mathlib.Core.Path.{◌≡◌}
 use native.Mathlib.Omega.{arith}
-use Rattle.vertices.specs.Vertices.{Linked}
 use Rattle.vertices.proofs.Starts.{linked_first, linked_more}
 use Rattle.vertices.proofs.link.Goals as goal
 

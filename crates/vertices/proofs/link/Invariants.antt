@@ -1,9 +1,6 @@
 -- `link` meets its contract. The invariant: the corners below i are linked.
 use Prim.Native.Nat.{◌-◌, ◌≤◌}
-use mathlib.Core.Path.{◌≡◌}
-use native.Mathlib.Omega.{arith}
 use Rattle.vertices.specs.Vertices.{Linked}
-use Rattle.vertices.proofs.Starts.{linked_first, linked_more}
 use Rattle.vertices.proofs.link.Given as goal
 
 abbrev pub invariant-loop-i : goal.invariant-loop-i

@@ -1,8 +1,6 @@
-use Prim.Native.Nat.{◌-◌, ◌≤◌}
 use native.Mathlib.Omega.{arith}
 use native.Mathlib.Nat.{sub-zero}
-use mathlib.Core.Path.{◌≡◌, sym, ◌∙◌}
-use Rattle.vertices.specs.Vertices.{on, lowest_from}
+use mathlib.Core.Path.{sym, ◌∙◌}
 use Rattle.vertices.proofs.Actives.{low_more, low_end}
 use Rattle.vertices.proofs.lowest.Goals as goal
 

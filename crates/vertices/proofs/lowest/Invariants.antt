@@ -1,10 +1,7 @@
 -- `lowest` meets its contract. The invariant: the numbers before i are not active.
 use Prim.Native.Nat.{◌-◌, ◌≤◌}
-use native.Mathlib.Omega.{arith}
-use native.Mathlib.Nat.{sub-zero}
-use mathlib.Core.Path.{◌≡◌, sym, ◌∙◌}
+use mathlib.Core.Path.{◌≡◌}
 use Rattle.vertices.specs.Vertices.{on, lowest_from}
-use Rattle.vertices.proofs.Actives.{low_more, low_end}
 use Rattle.vertices.proofs.lowest.Given as goal
 
 abbrev pub invariant-loop-i : goal.invariant-loop-i

@@ -5,7 +5,6 @@ use lib.ListN.{set}
 use Rattle.rules.specs.Plane.{Pt, minus}
 use Rattle.rules.specs.Root.{reciprocal}
 use Rattle.rules.proofs.Coordinates.{point_fits}
-use borrow.Author.Rules.{rules}
 use Rattle.vertices.proofs.measure.Goals as goal
 
 pub point_at-p-requires : goal.point_at-p-requires

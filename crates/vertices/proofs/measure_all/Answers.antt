@@ -1,8 +1,6 @@
-use Prim.Native.Nat.{◌-◌, ◌≤◌, ◌<◌}
+use Prim.Native.Nat.{◌<◌}
 use mathlib.Core.Path.{◌≡◌}
 use native.Mathlib.Omega.{arith}
-use Rattle.rules.specs.Grid.{points_of}
-use Rattle.vertices.specs.Vertices.{Measured}
 use Rattle.vertices.proofs.Starts.{measured_more}
 use Rattle.vertices.proofs.measure_all.Goals as goal
 

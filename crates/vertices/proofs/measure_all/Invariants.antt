@@ -1,10 +1,7 @@
 -- `measure_all` meets its contract. The invariant: the lengths of the edges from the corners below i are kept.
-use Prim.Native.Nat.{◌-◌, ◌≤◌, ◌<◌}
-use mathlib.Core.Path.{◌≡◌}
-use native.Mathlib.Omega.{arith}
+use Prim.Native.Nat.{◌-◌, ◌≤◌}
 use Rattle.rules.specs.Grid.{points_of}
 use Rattle.vertices.specs.Vertices.{Measured}
-use Rattle.vertices.proofs.Starts.{measured_more}
 use Rattle.vertices.proofs.measure_all.Given as goal
 
 abbrev pub invariant-loop-i : goal.invariant-loop-i

@@ -4,7 +4,6 @@ use mathlib.Core.List.{[]}
 use Rattle.winners.proofs.Sizes.{power_small}
 use Rattle.vertices.proofs.Corners.{proper}
 use Rattle.vertices.proofs.Starts.{nexts, first-corners, updated_leaves, started}
-use borrow.Author.Rules.{rules}
 use Rattle.vertices.proofs.start.Goals as goal
 
 pub measure_all-requires : goal.measure_all-requires

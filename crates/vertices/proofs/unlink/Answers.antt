@@ -3,7 +3,6 @@ use Prim.Native.Nat.{ℕ}
 use mathlib.Core.Path.{refl, ap}
 use lib.ListN.{set}
 use Rattle.vertices.specs.Vertices.{place}
-use borrow.Author.Rules.{rules}
 use Rattle.vertices.proofs.unlink.Goals as goal
 
 pub returns : goal.returns

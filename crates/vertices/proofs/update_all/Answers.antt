@@ -1,8 +1,6 @@
-use Prim.Native.Nat.{◌-◌, ◌≤◌, ◌<◌}
+use Prim.Native.Nat.{◌<◌}
 use mathlib.Core.Path.{◌≡◌}
 use native.Mathlib.Omega.{arith}
-use Rattle.rules.specs.Grid.{points_of}
-use Rattle.vertices.specs.Vertices.{Updated}
 use Rattle.vertices.proofs.Starts.{none_updated, updated_more}
 use Rattle.vertices.proofs.update_all.Goals as goal
 

@@ -1,10 +1,7 @@
 -- `update_all` meets its contract. The invariant: the ears of the corners below i stand at their leaves.
-use Prim.Native.Nat.{◌-◌, ◌≤◌, ◌<◌}
-use mathlib.Core.Path.{◌≡◌}
-use native.Mathlib.Omega.{arith}
+use Prim.Native.Nat.{◌-◌, ◌≤◌}
 use Rattle.rules.specs.Grid.{points_of}
 use Rattle.vertices.specs.Vertices.{Updated}
-use Rattle.vertices.proofs.Starts.{none_updated, updated_more}
 use Rattle.vertices.proofs.update_all.Given as goal
 
 abbrev pub invariant-loop-i : goal.invariant-loop-i

@@ -1,7 +1,6 @@
 -- `beside` meets its contract.
 use mathlib.Core.Path.{refl}
 use Rattle.winners.proofs.Nodes.{beside_first, beside-second}
-use borrow.Author.Rules.{rules}
 use Rattle.winners.proofs.beside.Goals as goal
 
 pub returns-then-k-eq0 : goal.returns-then-k-eq0

@@ -2,13 +2,11 @@
 use Prim.Native.Nat.{ℕ}
 use mathlib.Core.Path.{◌≡◌, refl}
 use mathlib.Core.Bool.{Bool, true, false, cond}
-use Rattle.rules.specs.Ear as rules
 use Rattle.rules.specs.Cut.{nothing, better}
 use Rattle.winners.specs.Keys.{to_ear, from_ear, ear_in, decode, BetterOf}
 use Rattle.winners.specs.declared.Ear.{Ear}
 use Rattle.winners.specs.declared.Entry.{Entry}
 use Rattle.winners.proofs.Nodes.{better_entry, fair_ear, to-from}
-use borrow.Author.Rules.{rules}
 use Rattle.winners.proofs.better_of.Goals as goal
 
 -- by the ears that the keys stand for

@@ -1,6 +1,6 @@
 use Prim.Native.Nat.{◌-◌, ◌*◌}
 use native.Mathlib.Omega.{arith}
-use Rattle.winners.proofs.Nodes.{Built, build_start, build_step, build_end, first_child, fair_pair}
+use Rattle.winners.proofs.Nodes.{build_start, build_step, build_end, first_child, fair_pair}
 use Rattle.winners.proofs.build.Goals as goal
 
 pub loop-k-init : goal.loop-k-init

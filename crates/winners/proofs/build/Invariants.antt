@@ -1,7 +1,5 @@
 -- `build` meets its contract. The invariant: the nodes from k on are right.
-use Prim.Native.Nat.{◌-◌, ◌*◌}
-use native.Mathlib.Omega.{arith}
-use Rattle.winners.proofs.Nodes.{Built, build_start, build_step, build_end, first_child, fair_pair}
+use Rattle.winners.proofs.Nodes.{Built}
 use Rattle.winners.proofs.build.Given as goal
 
 abbrev pub invariant-loop-k : goal.invariant-loop-k

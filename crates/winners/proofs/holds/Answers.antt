@@ -1,6 +1,5 @@
 -- `holds` meets its contract.
 use Rattle.algebra.proofs.Equal.{impossible}
-use borrow.Author.Rules.{rules}
 use Rattle.winners.proofs.holds.Goals as goal
 
 pub returns-then-e-corner : goal.returns-then-e-corner

@@ -2,7 +2,6 @@
 use mathlib.Core.Path.{sym, ap}
 use lib.Ieee.{neg, of_bits}
 use Rattle.winners.specs.Keys.{key_of}
-use borrow.Author.Rules.{rules}
 use Rattle.winners.proofs.key_of.Goals as goal
 
 pub returns-in-No : goal.returns-in-No

@@ -1,6 +1,4 @@
-use Prim.Native.Nat.{◌-◌, ◌≤◌}
 use native.Mathlib.Omega.{arith}
-use Rattle.winners.specs.Keys.{Power}
 use Rattle.winners.proofs.Sizes.{power_one, power_more}
 use Rattle.winners.proofs.leaves_for.Goals as goal
 

@@ -1,8 +1,6 @@
 -- `leaves_for` meets its contract. The invariant: m is a power of two.
 use Prim.Native.Nat.{◌-◌, ◌≤◌}
-use native.Mathlib.Omega.{arith}
 use Rattle.winners.specs.Keys.{Power}
-use Rattle.winners.proofs.Sizes.{power_one, power_more}
 use Rattle.winners.proofs.leaves_for.Given as goal
 
 abbrev pub invariant-loop-m : goal.invariant-loop-m

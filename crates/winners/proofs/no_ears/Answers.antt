@@ -1,6 +1,5 @@
 -- `no_ears` meets its contract.
 use Rattle.winners.proofs.Nodes.{nobody}
-use borrow.Author.Rules.{rules}
 use Rattle.winners.proofs.no_ears.Goals as goal
 
 pub returns : goal.returns

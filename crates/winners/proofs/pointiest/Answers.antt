@@ -10,7 +10,6 @@ use Rattle.winners.proofs.Nodes.{to-from}
 use Rattle.winners.specs.declared.Ear.{Ear}
 use Rattle.winners.specs.declared.Ear.TheVariants.{No, Pointed}
 use Rattle.winners.specs.declared.Pick.TheVariants.{Nothing, At}
-use borrow.Author.Rules.{rules}
 use Rattle.winners.proofs.pointiest.Goals as goal
 
 module _ (val : List Float) (win : List ℕ) (e : Ear) (h : e ≡ from_ear (ear_in (get_or val 1 nan))) where

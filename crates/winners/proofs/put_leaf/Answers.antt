@@ -1,5 +1,4 @@
 -- `put_leaf` meets its contract.
-use borrow.Author.Rules.{rules}
 use Rattle.winners.proofs.put_leaf.Goals as goal
 
 pub returns : goal.returns

@@ -1,7 +1,5 @@
-use mathlib.Core.Path.{◌≡◌}
 use native.Mathlib.Omega.{arith}
-use Rattle.winners.specs.Keys.{entry_in}
-use Rattle.winners.proofs.Nodes.{Climb, number-children, climb_start, climb_step, climb_same, climb_end, climbed, own_entry, proper_fair, fair_pair}
+use Rattle.winners.proofs.Nodes.{number-children, climb_start, climb_step, climb_same, climb_end, climbed, own_entry, proper_fair, fair_pair}
 use Rattle.winners.proofs.set_ear.Goals as goal
 
 pub loop-k-init : goal.loop-k-init

@@ -1,8 +1,7 @@
 -- `set_ear` meets its contract. The invariant: only the parent of k may be wrong, and the best so far is what node k holds.
 use mathlib.Core.Path.{◌≡◌}
-use native.Mathlib.Omega.{arith}
 use Rattle.winners.specs.Keys.{entry_in}
-use Rattle.winners.proofs.Nodes.{Climb, number-children, climb_start, climb_step, climb_same, climb_end, climbed, own_entry, proper_fair, fair_pair}
+use Rattle.winners.proofs.Nodes.{Climb}
 use Rattle.winners.proofs.set_ear.Given as goal
 
 abbrev pub invariant-loop-k : goal.invariant-loop-k

@@ -8,7 +8,6 @@ use Rattle.rules.proofs.FloatOrder.{le_total}
 use Rattle.winners.specs.Keys.{lowest, to_ear, key_of, Proper, no, pointed}
 use Rattle.winners.specs.declared.Ear.{Ear}
 use Rattle.winners.proofs.Nodes.{lowest-number}
-use borrow.Author.Rules.{rules}
 use Rattle.winners.proofs.takes_later.Goals as goal
 
 neither : (t : Bool) → ◌≡◌ {A = Choice ℕ} nothing (cond t nothing nothing)

@@ -1,10 +1,8 @@
 -- `copy` meets its contract. The invariant: the numbers below i are copied.
 use Prim.Native.Nat.{◌-◌, ◌≤◌}
-use native.Mathlib.Omega.{arith}
-use mathlib.Core.Path.{◌≡◌, refl}
+use mathlib.Core.Path.{◌≡◌}
 use mathlib.Core.List.{◌++◌}
-use lib.ListN.{length, take, drop, length-set}
-use Rattle.words.proofs.Copies.{copy_more, copy_end}
+use lib.ListN.{length, take, drop}
 use Rattle.words.proofs.copy.Given as goal
 
 abbrev pub invariant-loop-i : goal.invariant-loop-i

@@ -2,7 +2,6 @@
 use mathlib.Core.Path.{sym}
 use lib.Ieee.{div, of_bits}
 use Rattle.words.proofs.Nans.{is_nan, is_number}
-use borrow.Author.Rules.{rules}
 use Rattle.words.proofs.float.Goals as goal
 
 pub returns-then-bits-gt2139095040 : goal.returns-then-bits-gt2139095040

@@ -1,7 +1,6 @@
 -- `put` meets its contract.
 use native.Mathlib.Omega.{arith}
 use lib.ListN.{length-set}
-use borrow.Author.Rules.{rules}
 use Rattle.words.proofs.put.Goals as goal
 
 pub bounds-bytes-k-2 : goal.bounds-bytes-k-2

@@ -1,9 +1,7 @@
-use Prim.Native.Nat.{◌-◌, ◌≤◌, ◌<◌}
+use Prim.Native.Nat.{◌<◌}
 use native.Mathlib.Omega.{arith}
 use mathlib.Core.Path.{◌≡◌, refl, ap, sym, ◌∙◌}
-use mathlib.Core.List.{◌++◌}
-use lib.ListN.{length, get_or, take, drop, length-set}
-use borrow.Author.Rules.{rules}
+use lib.ListN.{length, get_or, length-set}
 use Rattle.words.proofs.Copies.{copy_more, copy_end}
 use Rattle.words.specs.Bytes.{floats_of}
 use Rattle.words.proofs.Words.{floats_at, floats-length}

@@ -1,14 +1,9 @@
 -- `read_floats` meets its contract. The invariant: the words below i are read.
-use Prim.Native.Nat.{◌-◌, ◌≤◌, ◌<◌}
-use native.Mathlib.Omega.{arith}
-use mathlib.Core.Path.{◌≡◌, refl, ap, sym, ◌∙◌}
+use Prim.Native.Nat.{◌-◌, ◌≤◌}
+use mathlib.Core.Path.{◌≡◌}
 use mathlib.Core.List.{◌++◌}
-use lib.ListN.{length, get_or, take, drop, length-set}
-use borrow.Author.Rules.{rules}
-use Rattle.words.proofs.Copies.{copy_more, copy_end}
+use lib.ListN.{length, take, drop}
 use Rattle.words.specs.Bytes.{floats_of}
-use Rattle.words.proofs.Words.{floats_at, floats-length}
-use lib.Ieee.{nan, of_bits, binary32}
 use Rattle.words.proofs.read_floats.Given as goal
 
 abbrev pub invariant-loop-i : goal.invariant-loop-i

@@ -1,12 +1,9 @@
 -- `read_words` meets its contract. The invariant: the words below i are read.
-use Prim.Native.Nat.{◌-◌, ◌≤◌, ◌<◌}
-use native.Mathlib.Omega.{arith}
-use mathlib.Core.Path.{◌≡◌, refl, sym, ◌∙◌}
+use Prim.Native.Nat.{◌-◌, ◌≤◌}
+use mathlib.Core.Path.{◌≡◌}
 use mathlib.Core.List.{◌++◌}
-use lib.ListN.{length, get_or, take, drop, length-set}
-use Rattle.words.proofs.Copies.{copy_more, copy_end}
+use lib.ListN.{length, take, drop}
 use Rattle.words.specs.Bytes.{words_of}
-use Rattle.words.proofs.Words.{words_at, words_length}
 use Rattle.words.proofs.read_words.Given as goal
 
 abbrev pub invariant-loop-i : goal.invariant-loop-i

@@ -1,9 +1,7 @@
-use Prim.Native.Nat.{◌+◌, ◌*◌, ◌-◌, ◌≤◌, ◌<◌}
+use Prim.Native.Nat.{◌+◌, ◌*◌, ◌<◌}
 use mathlib.Core.Path.{◌≡◌, refl, ◌∙◌}
 use native.Mathlib.Omega.{arith}
-use lib.ListN.{length, take}
-use Rattle.rules.specs.Layout.{over}
-use Rattle.words.specs.Bytes.{bytes_of}
+use lib.ListN.{length}
 use Rattle.words.proofs.Words.{write-first, write_more, put_length}
 use Rattle.words.proofs.write_words.Goals as goal
 

@@ -1,10 +1,9 @@
 use mathlib.Core.Path.{◌≡◌}
 use lib.ListN.{length}
-use Prim.Native.Nat.{◌-◌, ◌≤◌, ◌<◌}
+use Prim.Native.Nat.{◌<◌}
 use native.Mathlib.Omega.{arith}
 use Rattle.rules.specs.Grid.{points_of}
 use Rattle.rules.proofs.Coordinates.{points-length, point_fits}
-use Rattle.blocking.specs.Outlined.{Flat}
 use Rattle.blocking.proofs.Flats.{one_flat}
 use Rattle.blocking.proofs.flat.flatten.Goals as goal
 

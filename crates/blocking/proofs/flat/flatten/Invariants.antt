@@ -1,12 +1,7 @@
 -- `flatten` meets its contract. The invariant: the points below k are written.
-use mathlib.Core.Path.{◌≡◌}
-use lib.ListN.{length}
-use Prim.Native.Nat.{◌-◌, ◌≤◌, ◌<◌}
-use native.Mathlib.Omega.{arith}
+use Prim.Native.Nat.{◌-◌, ◌≤◌}
 use Rattle.rules.specs.Grid.{points_of}
-use Rattle.rules.proofs.Coordinates.{points-length, point_fits}
 use Rattle.blocking.specs.Outlined.{Flat}
-use Rattle.blocking.proofs.Flats.{one_flat}
 use Rattle.blocking.proofs.flat.flatten.Given as goal
 
 abbrev pub invariant-loop-k : goal.invariant-loop-k

@@ -1,6 +1,5 @@
 -- `fill` meets its contract.
 use Rattle.blocking.proofs.Stripping.{all-stripped}
-use borrow.Author.Rules.{rules}
 use Rattle.blocking.proofs.strips.fill.Goals as goal
 
 pub returns : goal.returns

@@ -1,6 +1,5 @@
-use Prim.Native.Nat.{◌-◌, ◌≤◌}
 use native.Mathlib.Omega.{arith}
-use Rattle.blocking.proofs.Stripping.{Gathered, gathered_first, gathered_more}
+use Rattle.blocking.proofs.Stripping.{gathered_first, gathered_more}
 use Rattle.blocking.proofs.strips.gather.Goals as goal
 
 pub loop-i-init : goal.loop-i-init

@@ -1,7 +1,6 @@
 -- `gather` meets its contract. The invariant: the masks before place i are gathered.
 use Prim.Native.Nat.{◌-◌, ◌≤◌}
-use native.Mathlib.Omega.{arith}
-use Rattle.blocking.proofs.Stripping.{Gathered, gathered_first, gathered_more}
+use Rattle.blocking.proofs.Stripping.{Gathered}
 use Rattle.blocking.proofs.strips.gather.Given as goal
 
 abbrev pub invariant-loop-i : goal.invariant-loop-i

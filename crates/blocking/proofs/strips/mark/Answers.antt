@@ -3,7 +3,6 @@ use lib.Dec.{lit<}
 use Rattle.blocking.specs.Strips.{own_place, from_right, from_left, from_above, from_below}
 use Rattle.grid.specs.Points.{pt_of}
 use Rattle.blocking.proofs.Stripping.{on-x, on-y, is_put, is_marked}
-use borrow.Author.Rules.{rules}
 use Rattle.blocking.proofs.strips.mark.Goals as goal
 
 pub from_upper-requires : goal.from_upper-requires

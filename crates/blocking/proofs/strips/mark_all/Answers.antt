@@ -1,10 +1,9 @@
 use mathlib.Core.Path.{◌≡◌, refl}
 use lib.ListN.{length}
-use Prim.Native.Nat.{◌-◌, ◌≤◌, ◌<◌}
+use Prim.Native.Nat.{◌<◌}
 use native.Mathlib.Omega.{arith}
 use Rattle.rules.specs.Grid.{points_of}
 use Rattle.rules.proofs.Coordinates.{points-length, point_fits}
-use Rattle.blocking.specs.Strips.{MarkedUpTo}
 use Rattle.blocking.proofs.Stripping.{marked_more}
 use Rattle.blocking.proofs.strips.mark_all.Goals as goal
 

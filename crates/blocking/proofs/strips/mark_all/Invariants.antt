@@ -1,12 +1,7 @@
 -- `mark_all` meets its contract. The invariant: the points below k are in the masks of their own strips.
-use mathlib.Core.Path.{◌≡◌, refl}
-use lib.ListN.{length}
-use Prim.Native.Nat.{◌-◌, ◌≤◌, ◌<◌}
-use native.Mathlib.Omega.{arith}
+use Prim.Native.Nat.{◌-◌, ◌≤◌}
 use Rattle.rules.specs.Grid.{points_of}
-use Rattle.rules.proofs.Coordinates.{points-length, point_fits}
 use Rattle.blocking.specs.Strips.{MarkedUpTo}
-use Rattle.blocking.proofs.Stripping.{marked_more}
 use Rattle.blocking.proofs.strips.mark_all.Given as goal
 
 abbrev pub invariant-loop-k : goal.invariant-loop-k

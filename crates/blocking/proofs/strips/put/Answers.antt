@@ -4,7 +4,6 @@ use Prim.Native.Nat.{ℕ}
 use lib.Bits.{bit_or}
 use lib.ListN.{get_or, set}
 use Rattle.algebra.proofs.Bits.{one_shifted}
-use borrow.Author.Rules.{rules}
 use Rattle.blocking.proofs.strips.put.Goals as goal
 
 pub returns : goal.returns

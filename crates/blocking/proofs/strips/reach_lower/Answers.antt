@@ -1,6 +1,5 @@
 -- `reach_lower` meets its contract.
 use mathlib.Core.Path.{◌∙◌}
-use borrow.Author.Rules.{rules}
 use Rattle.blocking.proofs.strips.reach_lower.Goals as goal
 
 pub returns : goal.returns

@@ -1,6 +1,5 @@
 -- `reach_upper` meets its contract.
 use mathlib.Core.Path.{◌∙◌}
-use borrow.Author.Rules.{rules}
 use Rattle.blocking.proofs.strips.reach_upper.Goals as goal
 
 pub returns : goal.returns

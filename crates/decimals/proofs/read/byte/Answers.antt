@@ -1,5 +1,4 @@
 -- `byte` meets its contract.
-use borrow.Author.Rules.{rules}
 use mathlib.Core.Path.{sym}
 use lib.ListN.{get_or-eq_default}
 use Rattle.decimals.proofs.read.byte.Goals as goal

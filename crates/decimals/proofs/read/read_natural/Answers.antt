@@ -1,13 +1,9 @@
-use Prim.Native.Nat.{◌-◌}
 use native.Mathlib.Omega.{arith}
 use mathlib.Core.Path.{refl}
-use borrow.Author.Rules.{rules}
 use Rattle.std.proofs.lemmas.Bool.Decides.{nat_tests}
-use lib.ListN.{length}
 use lib.Dec.{leb}
-use Rattle.decimals.specs.Reads.{DigitAt}
 use Rattle.decimals.proofs.Flags.{there, nothing}
-use Rattle.decimals.proofs.Digits.{inside, no_digit, Sofar, begun, further, natural-done, zero_told}
+use Rattle.decimals.proofs.Digits.{inside, no_digit, begun, further, natural-done, zero_told}
 use Rattle.decimals.proofs.read.read_natural.Goals as goal
 
 pub returns-then-first-eq10 : goal.returns-then-first-eq10

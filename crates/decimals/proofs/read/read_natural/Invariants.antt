@@ -1,13 +1,8 @@
 -- `read_natural` meets its contract. The invariant: the digits up to i are those of a number above zero, and d is the digit at i, or 10.
 use Prim.Native.Nat.{◌-◌}
-use native.Mathlib.Omega.{arith}
-use mathlib.Core.Path.{refl}
-use borrow.Author.Rules.{rules}
-use borrow.Author.Tests.{leb-true, leb-false}
 use lib.ListN.{length}
 use Rattle.decimals.specs.Reads.{DigitAt}
-use Rattle.decimals.proofs.Flags.{there, nothing}
-use Rattle.decimals.proofs.Digits.{inside, no_digit, Sofar, begun, further, natural-done, zero_told}
+use Rattle.decimals.proofs.Digits.{Sofar}
 use Rattle.decimals.proofs.read.read_natural.Given as goal
 
 abbrev pub invariant-loop-d : goal.invariant-loop-d

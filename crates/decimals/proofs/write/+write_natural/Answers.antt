@@ -1,7 +1,6 @@
-use Rattle.std.proofs.Common.{ℕ, ◌+◌, ◌/◌, ◌%◌, ◌<◌, [], ◌∷◌, ◌++◌, subst}
-use Rattle.rules.specs.Text.{natural}
+use Rattle.std.proofs.Common.{ℕ, ◌/◌, ◌<◌, subst}
 use Rattle.rules.proofs.TextNumbers.{natural_one}
-use Rattle.decimals.proofs.Texts.{Partly, partly_none, partly_as, partly_byte, partly_fits, partly_more, partly_end, wrote_as}
+use Rattle.decimals.proofs.Texts.{partly_none, partly_as, partly_byte, partly_fits, partly_more, partly_end, wrote_as}
 use Rattle.decimals.proofs.NumberTexts.{digits-first, fewer}
 use Rattle.decimals.proofs.write.+write_natural.Goals as goal
 

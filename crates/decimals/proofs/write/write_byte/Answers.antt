@@ -1,6 +1,5 @@
 -- `write_byte` meets its contract.
 use mathlib.Core.Path.{refl}
-use borrow.Author.Rules.{rules}
 use Rattle.decimals.proofs.Texts.{wrote_byte}
 use Rattle.decimals.proofs.write.write_byte.Goals as goal
 

@@ -1,6 +1,5 @@
 -- `write_number` meets its contract: a minus if the value is below zero, then its size.
 use mathlib.Core.Path.{refl}
-use borrow.Author.Rules.{rules}
 use Rattle.rules.specs.Grid.{whole_of}
 use Rattle.rules.specs.Text.{natural, decimal}
 use Rattle.decimals.proofs.Texts.{Partly, partly_byte, partly_more, partly_room, partly_end}

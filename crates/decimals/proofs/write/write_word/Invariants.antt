@@ -1,11 +1,7 @@
 -- `write_word` meets its contract. The invariant: what is left of the word is still to be written.
-use Prim.Native.Nat.{ℕ, ◌+◌, ◌-◌, ◌<◌, ◌≤◌}
-use native.Mathlib.Omega.{arith}
-use native.Mathlib.Numerals.{add-one}
-use mathlib.Core.List.{List, [], ◌∷◌, ◌++◌}
-use lib.ListN.{length, drop, get_or, drop_of_length-le}
-use lib.Seq.{drop-cons}
-use Rattle.decimals.proofs.Texts.{Partly, partly_none, partly_byte, partly_more, partly_whole, partly_as, wrote-length}
+use Prim.Native.Nat.{◌-◌}
+use lib.ListN.{length, drop}
+use Rattle.decimals.proofs.Texts.{Partly}
 use Rattle.decimals.proofs.write.write_word.Given as goal
 
 abbrev pub invariant-loop-i : goal.invariant-loop-i

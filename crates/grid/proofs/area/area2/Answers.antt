@@ -1,9 +1,6 @@
-use Prim.Native.Nat.{◌-◌}
 use native.Mathlib.Omega.{arith}
-use borrow.Author.Rules.{rules}
-use Rattle.rules.specs.Grid.{points_of}
 use Rattle.rules.proofs.Coordinates.{within, past, point_fits}
-use Rattle.grid.proofs.Areas.{Summed, summed_first, added_fits, summed_more, summed_last}
+use Rattle.grid.proofs.Areas.{summed_first, added_fits, summed_more, summed_last}
 use Rattle.grid.proofs.area.area2.Goals as goal
 
 pub point_at-first-requires : goal.point_at-first-requires

@@ -1,11 +1,8 @@
 -- `area2` meets its contract. The invariant: what was added and what is left make up the area, and the sum is at most 2^21 for each edge that
 -- was passed.
 use Prim.Native.Nat.{◌-◌}
-use native.Mathlib.Omega.{arith}
-use borrow.Author.Rules.{rules}
 use Rattle.rules.specs.Grid.{points_of}
-use Rattle.rules.proofs.Coordinates.{within, past, point_fits}
-use Rattle.grid.proofs.Areas.{Summed, summed_first, added_fits, summed_more, summed_last}
+use Rattle.grid.proofs.Areas.{Summed}
 use Rattle.grid.proofs.area.area2.Given as goal
 
 abbrev pub invariant-loop-i : goal.invariant-loop-i

@@ -1,5 +1,4 @@
 -- `edge_area` meets its contract.
-use borrow.Author.Rules.{rules}
 use lib.Ieee.{of_bits}
 use Rattle.grid.proofs.Areas.{edge_whole, edge_is, edge_low}
 use Rattle.grid.proofs.area.edge_area.Goals as goal

@@ -6,7 +6,6 @@ use mathlib.Core.Bool.{true, false}
 use mathlib.Core.List.{List, [], ◌∷◌}
 use lib.ListN.{length}
 use lib.Ieee.{Float}
-use borrow.Author.Rules.{rules}
 use Rattle.rules.specs.Refusals.{◌gives◌, first_refusal, off_grid, count_checks, outline_checks}
 use Rattle.rules.proofs.Rows.{row_on, row_off, no_rows, front_gives, others_decide}
 use Rattle.rules.proofs.Fronts.{count-front}

@@ -1,7 +1,6 @@
 -- `corner_direction` meets its contract. What it computes is `cross_f`, which is a whole number whose sign tells the turn.
 use mathlib.Core.Path.{◌≡◌}
 use lib.Ieee.{of_bits}
-use borrow.Author.Rules.{rules}
 use Rattle.rules.specs.Plane.{minus, cross}
 use Rattle.grid.specs.Points.{pt_of}
 use Rattle.grid.proofs.Value.{Is}

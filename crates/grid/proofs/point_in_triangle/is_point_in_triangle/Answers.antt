@@ -1,7 +1,6 @@
 -- `is_point_in_triangle` meets its contract: its two flags are those of `in_triangle_lem`.
 use mathlib.Core.Path.{◌≡◌, ◌∙◌}
 use mathlib.Core.Bool.{Bool, true, false, not, ◌&&◌, ◌||◌}
-use borrow.Author.Rules.{rules}
 use Rattle.rules.specs.Plane.{in_triangle}
 use Rattle.grid.specs.Points.{pt_of}
 use Rattle.grid.proofs.Triangle.{in_triangle_lem}

@@ -4,7 +4,6 @@ use mathlib.Core.Path.{sym}
 use lib.Seq.{length-take-le}
 use Rattle.hasplight.proofs.Lending.{words_kept, room_for, gives}
 use Rattle.hasplight.proofs.Hulling.{hull_reports, hull_need}
-use borrow.Author.Rules.{rules}
 use Rattle.hasplight.proofs.hull.hull.Goals as goal
 
 pub slice_bounds-convex_hull2_idx-end : goal.slice_bounds-convex_hull2_idx-end

@@ -1,6 +1,5 @@
 -- `corners` meets its contract.
 use Rattle.hasplight.proofs.Merging.{corners_none, corners_some}
-use borrow.Author.Rules.{rules}
 use Rattle.hasplight.proofs.room.corners.Goals as goal
 
 pub returns-then-number-ne0 : goal.returns-then-number-ne0

@@ -2,7 +2,6 @@
 use Prim.Native.Nat.{ℕ}
 use mathlib.Core.Path.{◌∙◌, ap}
 use lib.ListN.{get_or}
-use borrow.Author.Rules.{rules}
 use Rattle.joins.proofs.looks.corner_beyond.Goals as goal
 
 pub returns : goal.returns

@@ -3,7 +3,6 @@ use native.Mathlib.Omega.{arith}
 use Rattle.rules.specs.Grid.{points_of}
 use Rattle.rules.specs.Merge.{may_join}
 use Rattle.joins.proofs.Corners.{looked_lone, third_low, looked_refused, looked_joins}
-use borrow.Author.Rules.{rules}
 use Rattle.joins.proofs.looks.look_at.Goals as goal
 
 pub returns-in_default : goal.returns-in_default

@@ -1,6 +1,5 @@
 -- `may_join` meets its contract.
 use Rattle.joins.proofs.Corners.{first-bent, second-asked}
-use borrow.Author.Rules.{rules}
 use Rattle.joins.proofs.looks.may_join.Goals as goal
 
 pub returns-then-turns_right : goal.returns-then-turns_right

@@ -2,7 +2,6 @@
 use Rattle.rules.specs.Grid.{points_of}
 use Rattle.rules.proofs.Coordinates.{point_fits}
 use Rattle.joins.proofs.Corners.{turn_is}
-use borrow.Author.Rules.{rules}
 use Rattle.joins.proofs.looks.turns_right.Goals as goal
 
 pub point_at-p-requires : goal.point_at-p-requires

@@ -1,7 +1,6 @@
 -- `begin` meets its contract.
 use mathlib.Core.Path.{◌∙◌}
 use Rattle.joins.proofs.Places.{begins}
-use borrow.Author.Rules.{rules}
 use Rattle.joins.proofs.ring.begin.Goals as goal
 
 pub returns : goal.returns

@@ -2,7 +2,6 @@
 use Prim.Native.Nat.{ℕ}
 use mathlib.Core.Path.{ap, ap₂}
 use lib.ListN.{set}
-use borrow.Author.Rules.{rules}
 use Rattle.joins.proofs.ring.put_between.Goals as goal
 
 pub returns : goal.returns

@@ -1,9 +1,8 @@
-use Prim.Native.Nat.{◌-◌, ◌<◌}
+use Prim.Native.Nat.{◌<◌}
 use mathlib.Core.Path.{◌≡◌}
 use lib.ListN.{length}
 use native.Mathlib.Omega.{arith}
-use borrow.Author.Rules.{rules}
-use Rattle.joins.proofs.Writing.{Writing, writing-first, out_size, place_low, writing_more, writing-end}
+use Rattle.joins.proofs.Writing.{writing-first, out_size, place_low, writing_more, writing-end}
 use Rattle.joins.proofs.ring.write_ring.Goals as goal
 
 pub loop-i-init : goal.loop-i-init

@@ -1,10 +1,6 @@
 -- `write_ring` meets its contract. The invariant: i corners are written.
-use Prim.Native.Nat.{◌-◌, ◌<◌}
-use mathlib.Core.Path.{◌≡◌}
-use lib.ListN.{length}
-use native.Mathlib.Omega.{arith}
-use borrow.Author.Rules.{rules}
-use Rattle.joins.proofs.Writing.{Writing, writing-first, out_size, place_low, writing_more, writing-end}
+use Prim.Native.Nat.{◌-◌}
+use Rattle.joins.proofs.Writing.{Writing}
 use Rattle.joins.proofs.ring.write_ring.Given as goal
 
 abbrev pub invariant-loop-i : goal.invariant-loop-i

@@ -3,7 +3,6 @@ use mathlib.Core.Path.{sym, ap}
 use native.Mathlib.Omega.{arith}
 use Rattle.rules.specs.Grid.{on_grid}
 use Rattle.words.proofs.Nans.{is_nan, is_number}
-use borrow.Author.Rules.{rules}
 use Rattle.point_in_poly2d.proofs.bytes.bits_on_grid.Goals as goal
 
 pub returns-then-bits-gt2139095040 : goal.returns-then-bits-gt2139095040

@@ -1,6 +1,5 @@
 -- `coordinate` meets its contract.
 use Rattle.point_in_poly2d.proofs.Words.{grid_number}
-use borrow.Author.Rules.{rules}
 use Rattle.point_in_poly2d.proofs.bytes.coordinate.Goals as goal
 
 pub float_from_bits-result : goal.float_from_bits-result

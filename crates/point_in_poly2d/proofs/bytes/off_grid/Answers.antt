@@ -1,8 +1,6 @@
-use Prim.Native.Nat.{◌-◌, ◌≤◌}
 use mathlib.Core.Path.{refl}
 use native.Mathlib.Omega.{arith}
-use borrow.Author.Rules.{rules}
-use Rattle.point_in_poly2d.proofs.Words.{Checked, checked_more, checked_end}
+use Rattle.point_in_poly2d.proofs.Words.{checked_more, checked_end}
 use Rattle.point_in_poly2d.proofs.bytes.off_grid.Goals as goal
 
 pub loop-i-init : goal.loop-i-init

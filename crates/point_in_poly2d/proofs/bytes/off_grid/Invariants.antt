@@ -1,9 +1,6 @@
 -- `off_grid` meets its contract. The invariant: all are off the grid where a word before i is, or a word from i on.
 use Prim.Native.Nat.{◌-◌, ◌≤◌}
-use mathlib.Core.Path.{refl}
-use native.Mathlib.Omega.{arith}
-use borrow.Author.Rules.{rules}
-use Rattle.point_in_poly2d.proofs.Words.{Checked, checked_more, checked_end}
+use Rattle.point_in_poly2d.proofs.Words.{Checked}
 use Rattle.point_in_poly2d.proofs.bytes.off_grid.Given as goal
 
 abbrev pub invariant-loop-i : goal.invariant-loop-i

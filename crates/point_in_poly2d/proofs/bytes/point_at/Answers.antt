@@ -4,7 +4,6 @@ use Rattle.grid.proofs.Triangle.{point-on}
 use Rattle.words.specs.Bytes.{floats_of}
 use Rattle.words.proofs.Words.{floats-length}
 use Rattle.point_in_poly2d.proofs.Words.{read_float, read_on}
-use borrow.Author.Rules.{rules}
 use Rattle.point_in_poly2d.proofs.bytes.point_at.Goals as goal
 
 pub coordinate-requires : goal.coordinate-requires

@@ -7,7 +7,6 @@ use mathlib.Core.List.{List, [], ◌∷◌}
 use native.Mathlib.Omega.{arith}
 use lib.ListN.{length}
 use lib.Ieee.{Float}
-use borrow.Author.Rules.{rules}
 use Rattle.rules.specs.Limits.{most_points}
 use Rattle.rules.specs.Refusals.{◌gives◌, first_refusal, off_grid, count_checks, outline_checks, point_test_checks}
 use Rattle.rules.proofs.Rows.{row_on, row_off, no_rows, front_gives, others_decide}

@@ -1,7 +1,6 @@
 use Prim.Native.Nat.{◌-◌, ◌/◌}
 use mathlib.Core.Path.{◌∙◌, ap}
 use native.Mathlib.Omega.{arith}
-use borrow.Author.Rules.{rules}
 use lib.ListN.{length}
 use Rattle.rules.specs.Grid.{points_of}
 use Rattle.words.specs.Bytes.{floats_of}
@@ -9,7 +8,7 @@ use Rattle.grid.specs.Points.{pt_of}
 use Rattle.point_in_poly2d.specs.Verdicts.{answered}
 use Rattle.point_in_poly2d.proofs.Crossings.{no_edges}
 use Rattle.point_in_poly2d.proofs.Words.{points_many}
-use Rattle.point_in_poly2d.proofs.Ring.{Passing, passing_first, passing_more, passing_end}
+use Rattle.point_in_poly2d.proofs.Ring.{passing_first, passing_more, passing_end}
 use Rattle.point_in_poly2d.proofs.bytes.walk.Goals as goal
 
 pub returns-then-n-eq0 : goal.returns-then-n-eq0

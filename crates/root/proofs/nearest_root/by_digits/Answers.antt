@@ -1,6 +1,6 @@
 use Rattle.std.proofs.Common.{◌≡◌, ◌+◌, ◌-◌, ◌*◌, ◌%◌, ◌^◌, ◌<◌, ◌≤◌, mul-le-mul, arith, lit≤}
 use Rattle.root.proofs.Shift.{one_shl}
-use Rattle.root.proofs.Digits.{Found, set, clear, small, last-small, up, stay}
+use Rattle.root.proofs.Digits.{set, clear, small, last-small, up, stay}
 use Rattle.root.proofs.nearest_root.by_digits.Goals as goal
 
 pub loop-b-init : goal.loop-b-init

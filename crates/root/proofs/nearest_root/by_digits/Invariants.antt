@@ -1,7 +1,5 @@
 -- `by_digits` meets its contract. The loop's invariant: k holds the root's digits from the place b on.
-use Rattle.std.proofs.Common.{◌≡◌, ◌+◌, ◌-◌, ◌*◌, ◌%◌, ◌^◌, ◌<◌, ◌≤◌, mul-le-mul, arith, lit≤}
-use Rattle.root.proofs.Shift.{one_shl}
-use Rattle.root.proofs.Digits.{Found, set, clear, small, last-small, up, stay}
+use Rattle.root.proofs.Digits.{Found}
 use Rattle.root.proofs.nearest_root.by_digits.Given as goal
 
 abbrev pub invariant-loop-b : goal.invariant-loop-b

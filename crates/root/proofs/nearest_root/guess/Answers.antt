@@ -1,5 +1,5 @@
 -- `guess` meets its contract: the hyperbola's value is a number.
-use Rattle.std.proofs.Common.{arith, rules}
+use Rattle.std.proofs.Common.{arith}
 use lib.Ieee.{binary64}
 use Rattle.grid.proofs.Value.{in_float_lem}
 use Rattle.root.proofs.Numbers.{whole-number, hyperbola_number}

@@ -1,5 +1,4 @@
 -- `nearest_root` meets its contract: the guess has passed, or the digits are worked out.
-use Rattle.std.proofs.Common.{rules}
 use Rattle.root.proofs.nearest_root.nearest_root.Goals as goal
 
 pub returns-then-t : goal.returns-then-t

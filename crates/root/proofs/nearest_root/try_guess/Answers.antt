@@ -1,5 +1,5 @@
 -- `try_guess` meets its contract.
-use Rattle.std.proofs.Common.{◌*◌, ◌<◌, arith, rules, ltb-true}
+use Rattle.std.proofs.Common.{◌*◌, ◌<◌, arith, ltb-true}
 use Rattle.root.proofs.Remainder.{squared, up, stay}
 use Rattle.root.proofs.nearest_root.try_guess.Goals as goal
 use Rattle.root.proofs.nearest_root.try_guess.Goals.{then-below-g, else-below-g}

@@ -1,6 +1,5 @@
 -- `finish` meets its contract.
 use mathlib.Core.Path.{sym}
-use borrow.Author.Rules.{rules}
 use lib.Seq.{length-take-le}
 use Rattle.shift_log.proofs.Played.{finish_none, finish_some}
 use Rattle.shift_log.proofs.play.finish.Goals as goal

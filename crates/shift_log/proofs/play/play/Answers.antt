@@ -1,9 +1,8 @@
-use Prim.Native.Nat.{◌+◌, ◌-◌}
+use Prim.Native.Nat.{◌+◌}
 use mathlib.Core.Path.{◌≡◌, sym, ap, ◌∙◌}
 use native.Mathlib.Omega.{arith}
-use borrow.Author.Rules.{rules}
 use lib.ListN.{length, length-drop}
-use Rattle.shift_log.proofs.PlayingReads.{from_is, Playing, playing_none, playing_more, playing_done}
+use Rattle.shift_log.proofs.PlayingReads.{from_is, playing_none, playing_more, playing_done}
 use Rattle.shift_log.proofs.play.play.Goals as goal
 
 pub loop-n-init : goal.loop-n-init

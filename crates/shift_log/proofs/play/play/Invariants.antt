@@ -1,10 +1,7 @@
 -- `play` meets its contract. The loop's invariant is `Playing`.
-use Prim.Native.Nat.{◌+◌, ◌-◌}
-use mathlib.Core.Path.{◌≡◌, sym, ap, ◌∙◌}
-use native.Mathlib.Omega.{arith}
-use borrow.Author.Rules.{rules}
-use lib.ListN.{length, length-drop}
-use Rattle.shift_log.proofs.PlayingReads.{from_is, Playing, playing_none, playing_more, playing_done}
+use Prim.Native.Nat.{◌-◌}
+use lib.ListN.{length}
+use Rattle.shift_log.proofs.PlayingReads.{Playing}
 use Rattle.shift_log.proofs.play.play.Given as goal
 
 abbrev pub invariant-loop-n : goal.invariant-loop-n

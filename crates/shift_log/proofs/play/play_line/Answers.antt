@@ -1,7 +1,6 @@
 -- `play_line` meets its contract: the line is the piece, or what was kept.
 use native.Mathlib.Omega.{arith}
 use mathlib.Core.Path.{sym}
-use borrow.Author.Rules.{rules}
 use lib.Seq.{length-take-le}
 use Rattle.shift_log.proofs.Played.{step_alone, step_kept}
 use Rattle.shift_log.proofs.play.play_line.Goals as goal

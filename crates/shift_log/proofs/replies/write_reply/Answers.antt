@@ -1,6 +1,5 @@
 -- `write_reply` meets its contract.
 use native.Mathlib.Omega.{arith}
-use borrow.Author.Rules.{rules}
 use Rattle.decimals.proofs.Texts.{wrote_then}
 use Rattle.shift_log.proofs.replies.write_reply.Goals as goal
 

@@ -1,7 +1,6 @@
 -- `write_text` meets its contract.
 use native.Mathlib.Omega.{arith}
 use Prim.Native.Nat.{◌<◌}
-use borrow.Author.Rules.{rules}
 use Rattle.shift_log.proofs.ReplyTexts.{number-text, outside-text, inside-text, border-text, number_short, wrote-text}
 use Rattle.shift_log.proofs.replies.write_text.Goals as goal
 

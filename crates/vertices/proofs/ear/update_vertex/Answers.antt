@@ -10,7 +10,6 @@ use Rattle.grid.specs.Points.{pt_of}
 use Rattle.rules.proofs.Coordinates.{point_fits}
 use Rattle.vertices.specs.Ears.{corner_of}
 use Rattle.vertices.proofs.IsEar.{left_is, left_so, blocked_is, no-left, is_blocked, is_pointed}
-use borrow.Author.Rules.{rules}
 use Rattle.vertices.proofs.ear.update_vertex.Goals as goal
 
 -- a side's reciprocal, by the points that were read

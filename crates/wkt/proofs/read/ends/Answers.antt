@@ -1,5 +1,4 @@
 -- `ends` meets its contract.
-use borrow.Author.Rules.{rules}
 use Rattle.wkt.proofs.Marks.{ends_told}
 use Rattle.wkt.proofs.read.ends.Goals as goal
 

@@ -1,5 +1,4 @@
 -- `put` meets its contract.
-use borrow.Author.Rules.{rules}
 use borrow.Author.Tests.{le-ltb, lt-ltb}
 use Rattle.wkt.proofs.read.put.Goals as goal
 

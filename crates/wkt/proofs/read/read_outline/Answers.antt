@@ -1,7 +1,6 @@
 -- `read_outline` meets its contract: too long, another word, or what the reading of the ring says.
 use native.Mathlib.Omega.{arith}
 use mathlib.Core.Path.{refl, ap}
-use borrow.Author.Rules.{rules}
 use borrow.Author.Tests.{not-true, not-false}
 use lib.ListN.{length, drop, length-append}
 use Rattle.wkt.specs.Reads.{Starts}

@@ -1,6 +1,5 @@
 -- `read_point_line` meets its contract: too long, another word, no point behind it, something behind the point, or a POINT line.
 use native.Mathlib.Omega.{arith}
-use borrow.Author.Rules.{rules}
 use borrow.Author.Tests.{not-true, not-false}
 use Rattle.rules.specs.Text.{bytes}
 use Rattle.decimals.proofs.Flags.{nothing, something}

@@ -1,10 +1,9 @@
-use Prim.Native.Nat.{◌+◌, ◌-◌}
+use Prim.Native.Nat.{◌+◌}
 use native.Mathlib.Omega.{arith}
 use mathlib.Core.List.{◌++◌}
 use mathlib.Core.Path.{◌≡◌}
-use borrow.Author.Rules.{rules}
 use borrow.Author.Tests.{not-true, not-false}
-use lib.ListN.{length, drop}
+use lib.ListN.{drop}
 use Rattle.wkt.specs.Reads.{parting, stored, Passed}
 use Rattle.wkt.proofs.Forms.{no-first-point}
 use Rattle.wkt.proofs.Marks.{room_for_two}

@@ -1,7 +1,6 @@
 -- `read_polygon` meets its promise.
 use native.Mathlib.Omega.{arith}
 use mathlib.Core.Path.{sym}
-use borrow.Author.Rules.{rules}
 use Rattle.rules.specs.Text.{bytes}
 use Rattle.wkt.specs.Reads.{OutlineRead}
 use Rattle.rules.proofs.LineAnswers.{reads-not}

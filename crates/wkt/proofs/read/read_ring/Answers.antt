@@ -1,7 +1,6 @@
 -- `read_ring` meets its contract: each refusal is one that no ring gets.
 use native.Mathlib.Omega.{arith}
 use mathlib.Core.Path.{◌≡◌, refl}
-use borrow.Author.Rules.{rules}
 use borrow.Author.Tests.{not-true, not-false}
 use lib.ListN.{drop}
 use Rattle.wkt.specs.Reads.{closing, NoParting, Passed}

@@ -1,5 +1,4 @@
 -- `repeats` meets its contract.
-use borrow.Author.Rules.{rules}
 use Rattle.wkt.proofs.Marks.{told}
 use Rattle.wkt.proofs.read.repeats.Goals as goal
 

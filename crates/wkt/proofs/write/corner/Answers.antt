@@ -1,6 +1,5 @@
 -- `corner` meets its contract.
 use mathlib.Core.Path.{ap, ◌∙◌}
-use borrow.Author.Rules.{rules}
 use Rattle.algebra.proofs.Lists.{each_at}
 use Rattle.rules.specs.Plane.{point}
 use Rattle.rules.specs.Grid.{points_of}

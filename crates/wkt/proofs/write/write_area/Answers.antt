@@ -1,6 +1,5 @@
 -- `write_area` meets its contract: a ring in parentheses.
 use mathlib.Core.List.{◌++◌}
-use borrow.Author.Rules.{rules}
 use Rattle.rules.specs.Grid.{points_of}
 use Rattle.rules.specs.Measure.{points}
 use Rattle.rules.specs.Text.{bytes, ring_text, area_text}

@@ -1,6 +1,4 @@
 -- `write_comma` meets its contract.
-use mathlib.Core.Path.{refl}
-use borrow.Author.Rules.{rules}
 use Rattle.wkt.proofs.write.write_comma.Goals as goal
 
 pub write_word-requires : goal.write_word-requires

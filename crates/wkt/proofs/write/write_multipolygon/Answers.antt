@@ -1,11 +1,7 @@
-use Prim.Native.Nat.{ℕ, ◌+◌, ◌-◌, ◌≤◌}
+use Prim.Native.Nat.{◌+◌}
 use native.Mathlib.Omega.{arith}
 use mathlib.Core.Path.{refl}
-use mathlib.Core.List.{List, ◌++◌}
-use lib.ListN.{length, drop}
-use borrow.Author.Rules.{rules}
-use Rattle.algebra.specs.Lists.{sum}
-use Rattle.rules.specs.Plane.{Pt}
+use mathlib.Core.List.{◌++◌}
 use Rattle.rules.specs.Grid.{points_of}
 use Rattle.rules.specs.Text.{bytes}
 use Rattle.decimals.proofs.Texts.{Partly, partly_none, partly_byte, partly_fits, partly_more, partly_room, partly_end, partly_then, wrote-length}

@@ -1,17 +1,11 @@
 -- `write_multipolygon` meets its contract. The invariant: since the loop began, the areas in front of number k were written; the corner numbers
 -- of the others stand behind theirs.
-use Prim.Native.Nat.{ℕ, ◌+◌, ◌-◌, ◌≤◌}
-use native.Mathlib.Omega.{arith}
-use mathlib.Core.Path.{refl}
-use mathlib.Core.List.{List, ◌++◌}
+use Prim.Native.Nat.{◌+◌, ◌-◌, ◌≤◌}
 use lib.ListN.{length, drop}
-use borrow.Author.Rules.{rules}
 use Rattle.algebra.specs.Lists.{sum}
-use Rattle.rules.specs.Plane.{Pt}
 use Rattle.rules.specs.Grid.{points_of}
-use Rattle.rules.specs.Text.{bytes}
-use Rattle.decimals.proofs.Texts.{Partly, partly_none, partly_byte, partly_fits, partly_more, partly_room, partly_end, partly_then, wrote-length}
-use Rattle.wkt.proofs.Areas.{line, area, further, Here, here, area_left, none_left, line_first}
+use Rattle.decimals.proofs.Texts.{Partly}
+use Rattle.wkt.proofs.Areas.{further}
 use Rattle.wkt.proofs.write.write_multipolygon.Given as goal
 
 abbrev pub invariant-loop-k : goal.invariant-loop-k

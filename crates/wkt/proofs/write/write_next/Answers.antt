@@ -1,5 +1,4 @@
 -- `write_next` meets its contract: a comma, a space and a point.
-use borrow.Author.Rules.{rules}
 use Rattle.decimals.proofs.Texts.{wrote_then}
 use Rattle.wkt.proofs.write.write_next.Goals as goal
 

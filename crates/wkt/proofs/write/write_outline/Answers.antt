@@ -1,6 +1,4 @@
 -- `write_outline` meets its contract: the word, and the area of all points.
-use mathlib.Core.Path.{refl}
-use borrow.Author.Rules.{rules}
 use Rattle.decimals.proofs.Texts.{partly_fits, partly_more, partly_room, partly_end}
 use Rattle.wkt.proofs.WriteEntry.{AllPoints, all-numbers, accepted, line-room, polygon-first}
 use Rattle.wkt.proofs.write.write_outline.Goals as goal

@@ -1,5 +1,4 @@
 -- `write_point` meets its contract: two numbers and a space between them.
-use borrow.Author.Rules.{rules}
 use Rattle.rules.specs.Text.{decimal, point_text}
 use Rattle.grid.specs.Points.{pt_of}
 use Rattle.decimals.proofs.Texts.{Partly, partly_byte, partly_fits, partly_more, partly_room, partly_end}

@@ -1,7 +1,6 @@
 -- `write_polygon` meets its promise.
 use native.Mathlib.Omega.{arith}
 use mathlib.Core.Path.{sym, ◌∙◌}
-use borrow.Author.Rules.{rules}
 use Rattle.wkt.proofs.WriteEntry.{refused, counted, answered}
 use Rattle.wkt.proofs.write.write_polygon.Goals as goal
 

@@ -1,9 +1,7 @@
-use Prim.Native.Nat.{ℕ, ◌+◌, ◌-◌}
+use Prim.Native.Nat.{◌+◌}
 use native.Mathlib.Omega.{arith}
 use mathlib.Core.Path.{refl}
-use mathlib.Core.List.{List, ◌++◌}
-use lib.ListN.{length}
-use Rattle.rules.specs.Plane.{Pt}
+use mathlib.Core.List.{◌++◌}
 use Rattle.rules.specs.Grid.{points_of}
 use Rattle.rules.specs.Measure.{points}
 use Rattle.rules.specs.Text.{bytes, point_text, ring_text}

@@ -1,16 +1,10 @@
 -- `write_ring` meets its contract. The invariant: since the loop began, the corners in front of number i were written.
-use Prim.Native.Nat.{ℕ, ◌+◌, ◌-◌}
-use native.Mathlib.Omega.{arith}
-use mathlib.Core.Path.{refl}
-use mathlib.Core.List.{List, ◌++◌}
+use Prim.Native.Nat.{◌-◌}
 use lib.ListN.{length}
-use Rattle.rules.specs.Plane.{Pt}
 use Rattle.rules.specs.Grid.{points_of}
-use Rattle.rules.specs.Measure.{points}
-use Rattle.rules.specs.Text.{bytes, point_text, ring_text}
 use Rattle.grid.specs.Points.{pt_of}
-use Rattle.decimals.proofs.Texts.{Partly, partly_none, partly_byte, partly_fits, partly_more, partly_room, partly_end, partly_then, wrote-length}
-use Rattle.wkt.proofs.Rings.{further, closing, corner-left, first-left, ring-first}
+use Rattle.decimals.proofs.Texts.{Partly}
+use Rattle.wkt.proofs.Rings.{further}
 use Rattle.wkt.proofs.write.write_ring.Given as goal
 
 abbrev pub invariant-loop-i : goal.invariant-loop-i
