@@ -2,12 +2,16 @@
 // refusal alone on a line. Without words it is filled by merged areas, with the word `triangles` by the triangles of the cut.
 #![tactic(auto)]
 
-ghost use Rattle.std.specs.Prelude.{◌≤◌, ◌≡◌, length};
+ghost use Rattle.std.specs.Prelude.{OnOk, ◌≤◌, ◌≡◌, length, take};
+ghost use Rattle.std.specs.Io.KnownBytes.{Appends};
 
 use entries::{Answer, wide};
 use fill_line::{fill_areas, fill_triangles, text_room};
-use input::more;
+use input::{is_given, more};
 use lines::line_end;
+use std::env::{Env, FillError};
+use std::io;
+use std::io::{Read, Write};
 use wkt::read::MOST_BYTES;
 
 #[derive(Clone, Copy)]
@@ -18,17 +22,12 @@ enum Plan {
 }
 
 // Which plan the words ask for. A longer word than `triangles` counts as none.
-fn asked() -> Plan {
-    let words = os::arg_count();
-    if words < 2 {
-        return Plan::Areas;
-    }
+fn asked(rt: &impl Env) -> Plan {
     let mut word = [0u8; 9];
-    let n = os::arg(1, &mut word);
-    if words == 2 && check::same(&word[..n], b"triangles") {
-        Plan::Triangles
-    } else {
-        Plan::Unknown
+    match rt.arg(1, &mut word) {
+        Err(FillError::NotPresent) => Plan::Areas,
+        Ok(n) if !is_given(rt, 2) && &word[..n] == b"triangles".as_slice() => Plan::Triangles,
+        _ => Plan::Unknown,
     }
 }
 
@@ -57,13 +56,13 @@ fn whole(bytes: usize) -> Input
 }
 
 // Reads until a newline has come, the room is full or the input ends.
-fn read_line(list: &mut [u8]) -> Input
+fn read_line<R: Read>(reader: &mut R, list: &mut [u8]) -> Input
     ensures bytes_in_bounds { result.bytes ≤ length list.old }
     ensures list_len_unchanged { length list.new ≡ length list.old }
 {
     let mut have = 0;
     while have < list.len() {
-        let got = more(list, have);
+        let got = more(reader, list, have);
         let came = got.bytes;
         if came == 0 {
             return Input {
@@ -80,8 +79,9 @@ fn read_line(list: &mut [u8]) -> Input
     whole(have)
 }
 
-fn say(words: &[u8]) {
-    io::write_all(2, words);
+// Says it where it can: nothing is left to do where it cannot.
+fn say<W: Write>(errors: &mut W, words: &[u8]) {
+    let _ = errors.write_all(words);
 }
 
 fn fill(plan: Plan, line: &[u8], out: &mut [u8]) -> Answer
@@ -94,38 +94,40 @@ fn fill(plan: Plan, line: &[u8], out: &mut [u8]) -> Answer
     }
 }
 
-// Writes the answer to a line, and answers whether it could.
-fn write(answer: Answer, out: &[u8]) -> bool
+// Writes the answer to a line.
+fn write<W: Write>(writer: &mut W, answer: Answer, out: &[u8]) -> io::Result<()>
     requires { answer.count ≤ length out.now }
+    ensures { OnOk result (answer.number ≡ 0 → Appends (W.contents writer.old) (W.contents writer.new) (take answer.count out.now)) }
 {
     if answer.number != 0 {
-        io::print_decimal(1, answer.number as u64)
+        write!(writer, "{}", answer.number)
     } else {
         let n = wide(answer.count);
-        io::write_all(1, &out[..n])
+        writer.write_all(&out[..n])
     }
 }
 
-fn answer(plan: Plan) {
+fn answer<R: Read, W: Write, E: Write>(reader: &mut R, writer: &mut W, errors: &mut E, plan: Plan) {
     let mut list = line_room();
-    let input = read_line(&mut list);
+    let input = read_line(reader, &mut list);
     if input.failed {
-        say(b"fill: standard input cannot be read\n");
+        say(errors, b"fill: standard input cannot be read\n");
         return;
     }
     let n = input.bytes;
     let end = line_end(&list[..n]);
     let mut out = text_room();
     let answer = fill(plan, &list[..end], &mut out);
-    if !write(answer, &out) || !io::write_all(1, b"\n") {
-        say(b"fill: standard output cannot be written\n");
+    if write(writer, answer, &out).is_err() || writer.write_all(b"\n").is_err() {
+        say(errors, b"fill: standard output cannot be written\n");
     }
 }
 
-fn main() {
-    let plan = asked();
+fn main(rt: HostRuntime) {
+    let plan = asked(&rt);
+    let mut errors = rt.stderr();
     match plan {
-        Plan::Unknown => say(b"usage: fill [triangles] < OUTLINE\n"),
-        _ => answer(plan),
+        Plan::Unknown => say(&mut errors, b"usage: fill [triangles] < OUTLINE\n"),
+        _ => answer(&mut rt.stdin(), &mut rt.stdout(), &mut errors, plan),
     }
 }

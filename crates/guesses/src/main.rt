@@ -4,6 +4,7 @@
 ghost use Rattle.std.specs.Prelude.{◌≤◌};
 
 use root::is_guessed;
+use std::io;
 
 const MOST: u32 = 8388608;
 
@@ -19,14 +20,13 @@ fn guessed() -> u32
     n
 }
 
-fn line(what: &[u8], n: u32) {
-    io::write_all(1, what);
-    io::print_decimal(1, n as u64);
-    io::write_all(1, b"\n");
+fn line(rt: &impl Print, what: &[u8], n: u32) -> io::Result<()> {
+    rt.write_all(what)?;
+    rt.println(n)
 }
 
-fn main() {
+fn main(rt: HostRuntime) -> io::Result<()> {
     let n = guessed();
-    line(b"roots guessed: ", n);
-    line(b"roots worked out digit by digit: ", MOST - n);
+    line(&rt, b"roots guessed: ", n)?;
+    line(&rt, b"roots worked out digit by digit: ", MOST - n)
 }

@@ -8,9 +8,10 @@ ghost use Rattle.rules.specs.Text.{most_bytes};
 ghost use Rattle.playback.specs.Lent.{Lent};
 
 use entries::no_floats;
-use input::{Got, more};
+use input::{Got, is_given, more};
 use shift_log::play::{Log, MOST_CARRIED, begin, finish, play};
 use shift_log::replies::MOST_REPLY;
+use std::io::{Read, Write};
 
 // In one read.
 const MOST_READ: usize = 16384;
@@ -55,10 +56,10 @@ fn is_open(state: State) -> bool {
 }
 
 // Writes the first n bytes, and says how far playing has come if the read before it brought so many bytes.
-fn write(out: &[u8], n: usize, got: Got) -> State
+fn write<W: Write>(writer: &mut W, out: &[u8], n: usize, got: Got) -> State
     requires { n ≤ length out.now }
 {
-    if !io::write_all(1, &out[..n]) {
+    if writer.write_all(&out[..n]).is_err() {
         return State::Unwritten;
     }
     if got.failed {
@@ -113,7 +114,14 @@ fn turn(
 }
 
 // A proved loop has to end, and nothing says that the input does: it is read at most 2^64 - 1 times.
-fn play_all(list: &mut [u8], carried: &mut [u8], coords: &mut [f32], out: &mut [u8]) -> State
+fn play_all<R: Read, W: Write>(
+    reader: &mut R,
+    writer: &mut W,
+    list: &mut [u8],
+    carried: &mut [u8],
+    coords: &mut [f32],
+    out: &mut [u8],
+) -> State
     requires carried_len { length carried.old ≡ suc most_bytes }
     requires most_coordinates_in_bounds { most_coordinates ≤ length coords.old }
     requires in_bounds { 11 ≤ length out.old }
@@ -123,37 +131,46 @@ fn play_all(list: &mut [u8], carried: &mut [u8], coords: &mut [f32], out: &mut [
     let mut state = State::Open;
     let mut reads = 0usize;
     while reads < 18446744073709551615 && is_open(state) {
-        let got = more(list, 0);
+        let got = more(reader, list, 0);
         let n = got.bytes;
         log = turn(&list[..n], got.failed, log, carried, coords, out);
-        state = write(out, log.end, got);
+        state = write(writer, out, log.end, got);
         reads += 1;
     }
     state
 }
 
-fn say(words: &[u8]) {
-    io::write_all(2, words);
+// Says it where it can: nothing is left to do where it cannot.
+fn say<W: Write>(errors: &mut W, words: &[u8]) {
+    let _ = errors.write_all(words);
 }
 
-fn answer() {
+fn answer<R: Read, W: Write, E: Write>(reader: &mut R, writer: &mut W, errors: &mut E) {
     let mut list = read_room();
     let mut carried = carried_room();
     let mut coords = no_floats();
     let mut out = text_room();
-    let state = play_all(&mut list, &mut carried, &mut coords, &mut out);
+    let state = play_all(
+        reader,
+        writer,
+        &mut list,
+        &mut carried,
+        &mut coords,
+        &mut out,
+    );
     match state {
-        State::Open => say(b"playback: the log goes on\n"),
-        State::Whole => say(b""),
-        State::Unread => say(b"playback: standard input cannot be read\n"),
-        State::Unwritten => say(b"playback: standard output cannot be written\n"),
+        State::Open => say(errors, b"playback: the log goes on\n"),
+        State::Whole => say(errors, b""),
+        State::Unread => say(errors, b"playback: standard input cannot be read\n"),
+        State::Unwritten => say(errors, b"playback: standard output cannot be written\n"),
     }
 }
 
-fn main() {
-    if os::arg_count() < 2 {
-        answer();
+fn main(rt: HostRuntime) {
+    let mut errors = rt.stderr();
+    if is_given(&rt, 1) {
+        say(&mut errors, b"usage: playback < LOG\n");
     } else {
-        say(b"usage: playback < LOG\n");
+        answer(&mut rt.stdin(), &mut rt.stdout(), &mut errors);
     }
 }

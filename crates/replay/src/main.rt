@@ -7,6 +7,8 @@ ghost use Rattle.std.specs.Prelude.{◌≡◌, ◌+◌, ◌^◌, ◌≤◌, leng
 ghost use Rattle.replay.specs.Small.{Small};
 
 use input::more;
+use std::io;
+use std::io::Read;
 
 #[derive(Clone, Copy)]
 enum End {
@@ -141,14 +143,14 @@ fn ended(left: usize, failed: bool) -> End {
 }
 
 // Reads once behind the first bytes, and replays the whole records that are there then.
-fn turn(list: &mut [u8], have: usize) -> Tally
+fn turn<R: Read>(reader: &mut R, list: &mut [u8], have: usize) -> Tally
     requires have_in_bounds { have ≤ length list.old }
     requires list_len_bound { length list.old ≤ 65536 }
     ensures small { Small result }
     ensures left_in_bounds { result.left ≤ length list.old }
     ensures list_len_unchanged { length list.new ≡ length list.old }
 {
-    let got = more(list, have);
+    let got = more(reader, list, have);
     let came = got.bytes;
     if came == 0 {
         return none(have, ended(have, got.failed));
@@ -182,46 +184,54 @@ fn is_open(t: Tally) -> bool {
 }
 
 // A proved loop has to end, and nothing says that the input does: it is read at most 2^36 times.
-fn replay_all(list: &mut [u8]) -> Tally
+fn replay_all<R: Read>(reader: &mut R, list: &mut [u8]) -> Tally
     requires { length list.old ≤ 65536 }
 {
     let mut t = none(0, End::Open);
     let mut reads = 0usize;
     while reads < 68719476736 && is_open(t) {
-        t = sum(t, turn(list, t.left));
+        t = sum(t, turn(reader, list, t.left));
         reads += 1;
     }
     t
 }
 
-fn text(words: &[u8]) {
-    io::write_all(1, words);
+fn text(rt: &impl Print, words: &[u8]) -> io::Result<()> {
+    rt.write_all(words)
 }
 
-fn behind(records: usize, words: &[u8]) {
-    text(b"; behind record ");
-    io::print_decimal(1, records as u64);
-    text(words);
+fn behind(rt: &impl Print, records: usize, words: &[u8]) -> io::Result<()> {
+    text(rt, b"; behind record ")?;
+    rt.print(records)?;
+    text(rt, words)
 }
 
-fn main() {
-    let mut list = io::large_buffer();
-    let t = replay_all(&mut list);
-    io::print_decimal(1, t.inputs as u64);
-    text(b" inputs compared, ");
-    io::print_decimal(1, t.different as u64);
-    text(b" differ");
-    if 0 < t.first {
-        text(b", the first in record ");
-        io::print_decimal(1, t.first as u64);
-    }
-    let end = t.end;
+// Says how the input has ended, unless it is whole.
+fn tell_end(rt: &impl Print, records: usize, end: End) -> io::Result<()> {
     match end {
-        End::Open => behind(t.records, b" the input goes on"),
-        End::Whole => text(b""),
-        End::CutOff => behind(t.records, b" the input is cut off"),
-        End::NoRecord => behind(t.records, b" stands no record"),
-        End::Unread => behind(t.records, b" the input cannot be read"),
+        End::Open => behind(rt, records, b" the input goes on"),
+        End::Whole => Ok(()),
+        End::CutOff => behind(rt, records, b" the input is cut off"),
+        End::NoRecord => behind(rt, records, b" stands no record"),
+        End::Unread => behind(rt, records, b" the input cannot be read"),
     }
-    text(b"\n");
+}
+
+fn tell(rt: &impl Print, t: Tally) -> io::Result<()> {
+    rt.print(t.inputs)?;
+    text(rt, b" inputs compared, ")?;
+    rt.print(t.different)?;
+    text(rt, b" differ")?;
+    if 0 < t.first {
+        text(rt, b", the first in record ")?;
+        rt.print(t.first)?;
+    }
+    tell_end(rt, t.records, t.end)?;
+    text(rt, b"\n")
+}
+
+fn main(rt: HostRuntime) -> io::Result<()> {
+    let mut list = [0u8; 65536];
+    let t = replay_all(&mut rt.stdin(), &mut list);
+    tell(&rt, t)
 }

@@ -3,18 +3,19 @@ use crate::rings::{area, ask, front, together};
 use ear_clipping::triangulate_ear_clipping;
 use entries::{MOST_TRIANGLES, no_floats, threes, wide, zeros};
 use hertel_mehlhorn::hertel_mehlhorn_idx;
+use std::io;
 use wkt::read::read_polygon;
 
 // The spots: all grid points from (-2, -2) to (42, 32), row by row.
 const SPOTS: u32 = 1575;
 
-pub fn text(t: &[u8]) {
-    io::write_all(1, t);
+pub fn text(rt: &impl Print, t: &[u8]) -> io::Result<()> {
+    rt.write_all(t)
 }
 
-fn counted(n: u32, what: &[u8]) {
-    io::print_decimal(1, n as u64);
-    text(what);
+fn counted(rt: &impl Print, n: u32, what: &[u8]) -> io::Result<()> {
+    rt.print(n)?;
+    text(rt, what)
 }
 
 // The front of some words, or all where there are fewer.
@@ -104,60 +105,70 @@ fn compare(coords: &[f32], indices: &[u32], lengths: &[u32]) -> Compared {
 }
 
 // What the rings of a list have in common with the outline.
-fn held(coords: &[f32], what: &[u8], indices: &[u32], lengths: &[u32]) {
+fn held(
+    rt: &impl Print,
+    coords: &[f32],
+    what: &[u8],
+    indices: &[u32],
+    lengths: &[u32],
+) -> io::Result<()> {
     let sum = together(coords, indices, lengths, 0.0, 0.0);
-    text(b"  ");
-    io::print_decimal(1, lengths.len() as u64);
-    text(what);
-    counted(sum.clockwise, b" of them clockwise: ");
+    text(rt, b"  ")?;
+    rt.print(lengths.len())?;
+    text(rt, what)?;
+    counted(rt, sum.clockwise, b" of them clockwise: ")?;
     if sum.area == area(coords) {
-        text(b"the same doubled area");
+        text(rt, b"the same doubled area")?;
     } else {
-        text(b"another doubled area");
+        text(rt, b"another doubled area")?;
     }
     let compared = compare(coords, indices, lengths);
     if compared.otherwise == 0 {
-        text(b", the same points, ");
+        text(rt, b", the same points, ")?;
     } else {
-        text(b", another answer at ");
-        counted(compared.otherwise, b" points, ");
+        text(rt, b", another answer at ")?;
+        counted(rt, compared.otherwise, b" points, ")?;
     }
-    counted(compared.between, b" on the lines between them left out\n");
+    counted(
+        rt,
+        compared.between,
+        b" on the lines between them left out\n",
+    )
 }
 
-fn plan(coords: &[f32]) {
+fn plan(rt: &impl Print, coords: &[f32]) -> io::Result<()> {
     let mut triangles = zeros();
     let mut areas = zeros();
     let mut lengths = [0u32; MOST_TRIANGLES];
     let cut = triangulate_ear_clipping(coords, &mut triangles);
     if cut.number != 0 {
-        text(b"  refused, ");
-        counted(cut.number, b"\n");
-        return;
+        text(rt, b"  refused, ")?;
+        return counted(rt, cut.number, b"\n");
     }
     let n = wide(cut.count);
     let list = words(&triangles, 3 * n);
-    held(coords, b" triangles, ", list, words(&threes(), n));
+    held(rt, coords, b" triangles, ", list, words(&threes(), n))?;
     let merged = hertel_mehlhorn_idx(coords, list, &mut areas, &mut lengths);
     held(
+        rt,
         coords,
         b" areas, ",
         &areas,
         words(&lengths, wide(merged.count)),
-    );
+    )
 }
 
-pub fn run(name: &[u8], line: &[u8]) {
-    text(name);
-    text(b"\n  ");
-    text(line);
-    text(b"\n  ");
+pub fn run(rt: &impl Print, name: &[u8], line: &[u8]) -> io::Result<()> {
+    text(rt, name)?;
+    text(rt, b"\n  ")?;
+    text(rt, line)?;
+    text(rt, b"\n  ")?;
     let mut room = no_floats();
     let read = read_polygon(line, &mut room);
     let coords = front(&room, 2 * wide(read.count));
     let spots = spots_of(coords);
-    counted(spots.inside, b" inside and ");
-    counted(spots.border, b" on the border of ");
-    counted(SPOTS, b" grid points\n");
-    plan(coords);
+    counted(rt, spots.inside, b" inside and ")?;
+    counted(rt, spots.border, b" on the border of ")?;
+    counted(rt, SPOTS, b" grid points\n")?;
+    plan(rt, coords)
 }
