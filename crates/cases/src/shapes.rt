@@ -5,8 +5,7 @@ pub fn border() -> [f32; 1026] {
     let mut coords = [0.0f32; 1026];
     let mut x = 0.0f32;
     let mut y = 0.0f32;
-    let mut i = 0;
-    while i < 513 {
+    for i in 0..513 {
         coords[i * 2] = x;
         coords[i * 2 + 1] = y;
         if i < 128 {
@@ -18,7 +17,6 @@ pub fn border() -> [f32; 1026] {
         } else {
             y -= 1.0;
         }
-        i += 1;
     }
     coords
 }
@@ -28,14 +26,12 @@ pub fn round_the_grid(turn: f32) -> [f32; 1024] {
     let mut coords = [0.0f32; 1024];
     let mut x = -1024.0f32;
     let mut y = -1024.0f32;
-    let mut i = 0;
-    while i < 512 {
+    for i in 0..512 {
         coords[i * 2] = x;
         coords[i * 2 + 1] = y;
         let next = turn * x;
         x = 0.0 - turn * y;
         y = next;
-        i += 1;
     }
     coords
 }
@@ -49,13 +45,11 @@ pub fn comb() -> [f32; 1024] {
     coords[3] = -5.0;
     let mut x = 509.0f32;
     let mut y = 0.0f32;
-    let mut i = 2;
-    while i < 512 {
+    for i in 2..512 {
         coords[i * 2] = x;
         coords[i * 2 + 1] = y;
         x -= 1.0;
         y = 10.0 - y;
-        i += 1;
     }
     coords
 }
@@ -65,8 +59,7 @@ pub fn spiral() -> [f32; 128] {
     let mut coords = [0.0f32; 128];
     let mut low = 0.0f32;
     let mut high = 124.0f32;
-    let mut i = 0;
-    while i < 8 {
+    for i in 0..8 {
         let inwards = i * 8;
         coords[inwards] = low - 4.0;
         coords[inwards + 1] = low;
@@ -87,7 +80,6 @@ pub fn spiral() -> [f32; 128] {
         coords[back + 7] = low + 1.0;
         low += 4.0;
         high -= 4.0;
-        i += 1;
     }
     coords
 }

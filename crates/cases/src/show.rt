@@ -50,21 +50,17 @@ fn group(rt: &impl Print, indices: &[u32], at: usize, size: usize) -> io::Result
     requires { (at ≤ 4096) × (size ≤ 4096) }
 {
     text(rt, b" (")?;
-    let mut k = 0;
-    while k < size {
+    for k in 0..size {
         one(rt, indices, at + k, k == 0)?;
-        k += 1;
     }
     text(rt, b")")
 }
 
 fn triangles(rt: &impl Print, indices: &[u32], count: u32) -> io::Result<()> {
-    let mut k = 0;
-    while k < MOST_TRIANGLES {
+    for k in 0..MOST_TRIANGLES {
         if (k as u32) < count {
             group(rt, indices, k * 3, 3)?;
         }
-        k += 1;
     }
     Ok(())
 }
@@ -89,13 +85,11 @@ fn piece(rt: &impl Print, indices: &[u32], length: u32, at: usize) -> io::Result
 fn pieces(rt: &impl Print, indices: &[u32], lengths: &[u32], count: u32) -> io::Result<()> {
     let n = at_most(count);
     let mut at = 0;
-    let mut k = 0;
-    while k < n {
+    for k in 0..n {
         if lengths.len() <= k {
             return Ok(());
         }
         at = piece(rt, indices, lengths[k], at)?;
-        k += 1;
     }
     Ok(())
 }
@@ -206,16 +200,13 @@ pub fn roots(rt: &impl Print) -> io::Result<()> {
         0u32, 1, 2, 3, 4, 5, 6, 7, 8, 9, 10, 15, 16, 17, 24, 25, 26, 99, 100, 101, 1023, 1024,
         1025, 65535, 65536, 65537, 1048575, 1048576, 4194303, 4194304, 4194305, 8388607, 8388608,
     ];
-    let mut i = 0;
-    while i < 33 {
-        let m = ms[i];
+    for m in ms {
         if m <= 8388608 {
             number(rt, m)?;
             text(rt, b": ")?;
             number(rt, words::bits(root::root(m)))?;
             text(rt, b"\n")?;
         }
-        i += 1;
     }
     Ok(())
 }

@@ -16,15 +16,15 @@ fn push(line: &mut [u8], at: usize, word: &[u8]) -> usize
     requires { at ≤ length line.old }
     ensures { result ≤ length line.old }
 {
-    let mut i = 0;
-    while i < word.len() {
-        if line.len() - at <= i {
-            return line.len();
+    let mut end = at;
+    for byte in word {
+        if line.len() <= end {
+            return end;
         }
-        line[at + i] = word[i];
-        i += 1;
+        line[end] = *byte;
+        end += 1;
     }
-    at + i
+    end
 }
 
 // A word so many times.
@@ -33,10 +33,8 @@ fn push_many(line: &mut [u8], at: usize, word: &[u8], times: usize) -> usize
     ensures { result ≤ length line.old }
 {
     let mut end = at;
-    let mut i = 0;
-    while i < times {
+    for _ in 0..times {
         end = push(line, end, word);
-        i += 1;
     }
     end
 }
@@ -67,14 +65,12 @@ fn steps() -> [f32; MOST_COORDINATES]
 {
     let mut coords = no_floats();
     let mut low = -1024.0f32;
-    let mut i = 0;
-    while i < 255 {
+    for i in 0..255 {
         coords[4 * i] = low;
         coords[4 * i + 1] = low;
         coords[4 * i + 2] = low + 1.0;
         coords[4 * i + 3] = low;
         low = low + 1.0;
-        i += 1;
     }
     coords[1020] = low;
     coords[1021] = low;

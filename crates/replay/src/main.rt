@@ -100,10 +100,8 @@ fn shift(list: &mut [u8], from: usize, to: usize)
     requires { (from ≤ to) × (to ≤ length list.old) }
     ensures { length list.new ≡ length list.old }
 {
-    let mut i = from;
-    while i < to {
+    for i in from..to {
         list[i - from] = list[i];
-        i += 1;
     }
 }
 

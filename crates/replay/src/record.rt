@@ -19,17 +19,7 @@ fn lent() -> [u8; 8192]
 }
 
 fn same(a: &[u8], b: &[u8]) -> bool {
-    if a.len() != b.len() {
-        return false;
-    }
-    let mut i = 0;
-    while i < a.len() {
-        if a[i] != b[i] {
-            return false;
-        }
-        i += 1;
-    }
-    true
+    a == b
 }
 
 // What stands from a place on, or nothing where there is no such place.
@@ -178,11 +168,9 @@ fn other_roots(first: u32, roots: &[u8], n: usize) -> usize
 {
     let mut m = first;
     let mut other = 0;
-    let mut i = 0;
-    while i < n {
+    for i in 0..n {
         other += other_root(m, number(roots, i));
         m = std::num::wrapping_add_u32(m, 1);
-        i += 1;
     }
     other
 }

@@ -102,10 +102,8 @@ fn gather(
 )
     requires { (at ≤ 1530) × (size ≤ 512) }
 {
-    let mut k = 0;
-    while k < size {
+    for k in 0..size {
         copy_corner(coords, indices, at + k, ring, k);
-        k += 1;
     }
 }
 
@@ -135,13 +133,11 @@ pub fn together(coords: &[f32], indices: &[u32], lengths: &[u32], x: f32, y: f32
         clockwise: 0,
     };
     let mut at = 0;
-    let mut k = 0;
-    while k < lengths.len() {
-        let size = least(wide(lengths[k]), MOST_POINTS);
+    for length in lengths {
+        let size = least(wide(*length), MOST_POINTS);
         gather(coords, indices, at, size, &mut ring);
         sum = plus(sum, &ring, size, x, y);
         at = least(at + size, MOST_INDICES);
-        k += 1;
     }
     sum
 }

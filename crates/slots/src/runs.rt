@@ -68,13 +68,11 @@ fn spots_of(coords: &[f32]) -> Spots {
     let mut inside = 0u32;
     let mut border = 0u32;
     let mut p = first();
-    let mut k = 0;
-    while k < SPOTS {
+    for _ in 0..SPOTS {
         let said = ask(p.x, p.y, coords);
         inside = one_more(inside, said.inside);
         border = one_more(border, said.border);
         p = next(p);
-        k += 1;
     }
     Spots { inside, border }
 }
@@ -91,15 +89,13 @@ fn compare(coords: &[f32], indices: &[u32], lengths: &[u32]) -> Compared {
     let mut otherwise = 0u32;
     let mut between = 0u32;
     let mut p = first();
-    let mut k = 0;
-    while k < SPOTS {
+    for _ in 0..SPOTS {
         let said = ask(p.x, p.y, coords);
         let rings = together(coords, indices, lengths, p.x, p.y);
         let other = said.border || rings.odd != said.inside;
         otherwise = one_more(otherwise, !rings.border && other);
         between = one_more(between, rings.border && !said.border);
         p = next(p);
-        k += 1;
     }
     Compared { otherwise, between }
 }
