@@ -4,10 +4,10 @@ use Rattle.playback.specs.Lent.{Lent}
 use Rattle.playback.proofs.play_all.Given as goal
 
 abbrev pub invariant-loop-reads : goal.invariant-loop-reads
-invariant-loop-reads l = record {
-  read : length l.list ≡ length l.initial.list;
-  lent : Lent l.initial.carried l.initial.coords l.initial.out l.log l.carried l.coords l.out;
+invariant-loop-reads g l = record {
+  read : length l.list ≡ length l.fn.list;
+  lent : Lent l.fn.carried l.fn.coords l.fn.out l.log l.carried l.coords l.out;
 }
 
 abbrev pub decreases-loop-reads : goal.decreases-loop-reads
-decreases-loop-reads l = 18446744073709551615 - l.reads
+decreases-loop-reads g l = 18446744073709551615 - l.reads

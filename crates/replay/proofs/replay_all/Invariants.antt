@@ -3,7 +3,7 @@ use Rattle.std.proofs.Common.{◌≤◌, ◌-◌, ◌*◌, length}
 use Rattle.replay.proofs.replay_all.Given as goal
 
 abbrev pub invariant-loop-reads : goal.invariant-loop-reads
-invariant-loop-reads l = record {
+invariant-loop-reads g l = record {
   left : l.t.left ≤ length l.list;
   first : l.t.first ≤ l.t.records;
   records : l.t.records ≤ 65536 * l.reads;
@@ -12,4 +12,4 @@ invariant-loop-reads l = record {
 }
 
 abbrev pub decreases-loop-reads : goal.decreases-loop-reads
-decreases-loop-reads l = 68719476736 - l.reads
+decreases-loop-reads g l = 68719476736 - l.reads

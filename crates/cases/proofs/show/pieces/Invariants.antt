@@ -3,4 +3,4 @@ use Rattle.std.proofs.Common.{◌≤◌}
 use Rattle.cases.proofs.show.pieces.Given as goal
 
 abbrev pub invariant-loop-k : goal.invariant-loop-k
-invariant-loop-k l = l.at ≤ 4096
+invariant-loop-k g l = l.at ≤ 4096
