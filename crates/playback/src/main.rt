@@ -2,10 +2,12 @@
 // outline that is set, or where a point is. What has been answered is written before more is waited for.
 #![tactic(auto)]
 
-ghost use Rattle.std.specs.Prelude.{suc, ◌*◌, ◌≤◌, ◌≡◌, length};
+ghost use Rattle.std.specs.Prelude.{suc, ◌*◌, ◌≤◌, ◌≡◌, ◌≢◌, length, take};
+ghost use Rattle.std.specs.Io.KnownBytes.{Appends};
 ghost use Rattle.rules.specs.Limits.{most_coordinates};
 ghost use Rattle.rules.specs.Text.{most_bytes};
 ghost use Rattle.playback.specs.Lent.{Lent};
+ghost use Rattle.playback.specs.declared.State.TheVariants.{Unwritten};
 
 use entries::no_floats;
 use input::{Got, is_given, more};
@@ -58,6 +60,7 @@ fn is_open(state: State) -> bool {
 // Writes the first n bytes, and says how far playing has come if the read before it brought so many bytes.
 fn write<W: Write>(writer: &mut W, out: &[u8], n: usize, got: Got) -> State
     requires { n ≤ length out.now }
+    ensures { result ≢ Unwritten → Appends (W.contents writer.old) (W.contents writer.new) (take n out.now) }
 {
     if writer.write_all(&out[..n]).is_err() {
         return State::Unwritten;
