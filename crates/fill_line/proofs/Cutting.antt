@@ -79,7 +79,7 @@ module _ (corners : List Pt) (room k : ℕ) (lent out : List ℕ) (s : Answer) (
     accepted = sym p.number ∙ ok
 
     off : off_corners corners ≡ false
-    off = (filled corners room (sym cut-number ∙ ok)).on_grid_lem
+    off = (filled corners room (sym cut-number ∙ ok)).on_grid
 
     triangles_of_lem : triangles_for (points_of cs) ≡ triangles_for corners
     triangles_of_lem = ap triangles_for (points_read corners off)
@@ -105,7 +105,7 @@ module _ (corners : List Pt) (room k : ℕ) (lent out : List ℕ) (s : Answer) (
         record {
           counted = counted;
           points = ap points_of front ∙ points_read corners off;
-          on_grid_lem = ap off_grid front ∙ off_grid_read corners ∙ off;
+          on_grid = ap off_grid front ∙ off_grid_read corners ∙ off;
           triangles = ap (λ (l : List ℕ). take (3 * s.count) (l ++ rest)) written ∙ front_of (flatten (triangles_for (points_of cs))) (take k lent) rest (3 * s.count) many ∙ ap flatten triangles_of_lem;
         }
 

@@ -80,7 +80,7 @@ stand :
     (cs : List Float) (corners : List Pt) (rings : List (List ℕ)) (rest : List ℕ) → points_of cs ≡ corners → off_grid cs ≡ false → 3 ≤ length corners → Plan corners rings
     → Each (λ i. i < length corners) rest → Stands cs rings (flatten rings ++ rest) (map length rings)
 stand cs corners rings rest e off three plan below = record {
-  known = record { on_grid_lem = off; below = subst (λ (ps : List Pt). Each (λ i. i < length ps) (flatten rings ++ rest)) (sym e) (each_++ (flat-each plan.below) below) };
+  known = record { on_grid = off; below = subst (λ (ps : List Pt). Each (λ i. i < length ps) (flatten rings ++ rest)) (sym e) (each_++ (flat-each plan.below) below) };
   read_back = pieces-back rings rest;
   some = omega (arith, length-map rings length, plan_some corners rings three plan);
   within = omega (arith, sum-lengths rings, length-append (flatten rings) rest);
@@ -118,7 +118,7 @@ module _ {line out : List ℕ} {m : ℕ} {coords : List Float} {triangles : List
     text_is = ap₂ (λ (ps : List Pt) (l : List (List ℕ)). multipolygon_line (map (points ps) l)) cut.into.points s.read_back
 
     fits : length (multipolygon_line (map (points corners) (plan corners))) ≤ fill_room (length corners)
-    fits = plan_fits corners (plan corners) kept outline.on_grid_lem
+    fits = plan_fits corners (plan corners) kept outline.on_grid
 
     pub text_fits : Room out 0 (multipolygon_line (map (points (points_of cs)) (split lengths indices)))
     text_fits = record { fits = omega (arith, ap length text_is, fits, outline.fits) }
@@ -158,7 +158,7 @@ module _ {line out : List ℕ} {m : ℕ} {coords : List Float} {triangles : List
       let indices : take (3 * m) triangles ≡ flatten (triangles_for corners) ++ [] = cut.into.triangles ∙ sym (append-nil (flatten (triangles_for corners))) in
       subst (λ (l : List ℕ). Stands cs (triangles_for corners) l (take m threes)) (sym indices)
       (subst (Stands cs (triangles_for corners) (flatten (triangles_for corners) ++ [])) (sym lengths)
-      (stand cs corners (triangles_for corners) [] cut.into.points cut.into.on_grid_lem outline.outline.three triangles_kept end))
+      (stand cs corners (triangles_for corners) [] cut.into.points cut.into.on_grid outline.outline.three triangles_kept end))
 
   -- ---- areas
 
@@ -173,7 +173,7 @@ module _ {line out : List ℕ} {m : ℕ} {coords : List Float} {triangles : List
     even = ap (λ (n : ℕ). eqb (n % 2) 1) cs-length ∙ even (m + 2);
     at_least = omega arith;
     at_most = omega (arith, ap length cut.into.points, outline.outline.at_most);
-    on_grid_lem = cut.into.on_grid_lem;
+    on_grid = cut.into.on_grid;
   }
 
   abbrev given : List ℕ
@@ -215,4 +215,4 @@ module _ {line out : List ℕ} {m : ℕ} {coords : List Float} {triangles : List
           = each-drop (length (flatten (areas_for corners))) indices (subst (Each (λ i. i < length corners)) (sym zeros) (each-replicate 0 most_indices (omega (arith, outline.outline.three)))) in
           subst (λ (l : List ℕ). Stands cs (areas_for corners) l (take n lengths')) (sym is)
           (subst (Stands cs (areas_for corners) (flatten (areas_for corners) ++ drop (length (flatten (areas_for corners))) indices)) (sym ls)
-          (stand cs corners (areas_for corners) _ cut.into.points cut.into.on_grid_lem outline.outline.three areas_kept below))
+          (stand cs corners (areas_for corners) _ cut.into.points cut.into.on_grid outline.outline.three areas_kept below))

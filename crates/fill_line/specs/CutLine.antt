@@ -18,7 +18,7 @@ lent_for n room = cond (ltb room (fill_room n)) 0 most_indices
 pub record CutInto (corners : List Pt) (m : ℕ) (coords : List Float) (indices : List ℕ) : Type 0 where
   pub counted : length corners ≡ m + 2
   pub points : points_of (take (2 * m + 4) coords) ≡ corners
-  pub on_grid_lem : off_grid (take (2 * m + 4) coords) ≡ false
+  pub on_grid : off_grid (take (2 * m + 4) coords) ≡ false
   pub triangles : take (3 * m) indices ≡ flatten (triangles_for corners)
 
 pub data CutLine (line : List ℕ) (room : ℕ) (r : Answer) (coords : List Float) (indices : List ℕ) : Type 0 where

@@ -1,5 +1,5 @@
-// Hasplight for those who link it: the entries on numbers and byte slices. Each f32, index or length stands as four bytes, low byte
-// first; bytes past the last whole four are neither read nor written.
+// The entries on numbers and byte slices, as hasplight_c exports them. Each f32, index or length stands as four bytes, low byte first; bytes
+// past the last whole four are neither read nor written.
 #![tactic(auto)]
 
 pub mod hull;

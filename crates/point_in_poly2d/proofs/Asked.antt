@@ -62,7 +62,7 @@ accepted x y cs n e h p i j =
     let rows = sym e ∙ h in
     let none = front_none (asked-front x y cs) rows in
     let asked = (passes (off_grid (x ∷ y ∷ [])) 3 _ (sym (others_decide (asked-front x y cs) none) ∙ rows)).0 in
-    (points_on x y asked p i j, (outlined 0 most_points cs none).on_grid_lem)
+    (points_on x y asked p i j, (outlined 0 most_points cs none).on_grid)
 
 -- ---- the verdict has the number and the answer that the rules give, refused or not
 

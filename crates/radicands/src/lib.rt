@@ -1,4 +1,4 @@
-// The root alone, exported for those who compare it with another for every radicand.
+// The root alone, for those who compare it with another for every radicand.
 #![tactic(auto)]
 
 ghost use Rattle.std.specs.Prelude.{◌≡◌, cond, ◌^◌, ◌≤◌, ltb};

@@ -112,7 +112,7 @@ module _ (cs : List Float) (cut_out out lens : List ℕ) (cut_ok : (cutter cs cu
   outline : Outlined 0 most_points cs
   outline =
       let o = (ready cs (length cut_out) (front_none (seven_front cs (length cut_out)) (sym (cutter-number cs cut_out) ∙ cut_ok))).outlines in
-      record { even = o.even; at_least = omega arith; at_most = o.at_most; on_grid_lem = o.on_grid_lem }
+      record { even = o.even; at_least = omega arith; at_most = o.at_most; on_grid = o.on_grid }
 
   -- the merger accepts what the cut has written
   pub merger_takes : (merger cs given out lens).number ≡ 0

@@ -43,7 +43,7 @@ module _ (ps : List Pt) where
     taken f n i most lower =
         record {
           among = Memᴰ.append_right passed (Memᴰ.head refl);
-          is_ear_lem = i;
+          is_ear = i;
           greatest = each_++ most ((λ g j. subst (λ (x : Float). le x f ≡ true) (same-pointed (sym i ∙ j)) (le_refl f n)) & end);
           highest = each_++ (each_imp (λ d l g j q. omega arith) lower) ((λ g j q. omega arith) & end);
         }
@@ -53,7 +53,7 @@ module _ (ps : List Pt) where
     kept h less =
         record {
           among = Memᴰ.append_left (c ∷ []) h.among;
-          is_ear_lem = h.is_ear_lem;
+          is_ear = h.is_ear;
           greatest = each_++ h.greatest ((λ f i. (less f i).0) & end);
           highest = each_++ h.highest ((λ f i q. impossible (cc (less f i).1)) & end);
         }
@@ -85,10 +85,10 @@ module _ (ps : List Pt) where
   -- two that are the pointiest are one
   pointiest_unique : {cs : List (Corner ℕ)} {c d : Corner ℕ} {f g : Float} → AscendingCorners cs → Pointiest ps cs c f → Pointiest ps cs d g → best c f ≡ best d g
   pointiest_unique {c} {d} {f} {g} a h k =
-      let c≤ : c.at ≤ d.at = each_of k.highest h.among f h.is_ear_lem (each_of h.greatest k.among g k.is_ear_lem) in
-      let d≤ : d.at ≤ c.at = each_of h.highest k.among g k.is_ear_lem (each_of k.greatest h.among f h.is_ear_lem) in
+      let c≤ : c.at ≤ d.at = each_of k.highest h.among f h.is_ear (each_of h.greatest k.among g k.is_ear) in
+      let d≤ : d.at ≤ c.at = each_of h.highest k.among g k.is_ear (each_of k.greatest h.among f h.is_ear) in
       let e : c ≡ d = same-corner a h.among k.among (omega arith) in
-      let q : f ≡ g = same-pointed (sym h.is_ear_lem ∙ ap (ear ps) e ∙ k.is_ear_lem) in
+      let q : f ≡ g = same-pointed (sym h.is_ear ∙ ap (ear ps) e ∙ k.is_ear) in
       cc
 
   module _ {cs : List (Corner ℕ)} (a : AscendingCorners cs) (n : Numbers cs) where
@@ -105,7 +105,7 @@ module _ (ps : List Pt) where
     pointiest_chosen {c} {f} h = go choice_found
       where
         go : {b : Choice (Corner ℕ)} → Found cs b → b ≡ best c f
-        go (no_ear_yet k) = absurd (each_of k h.among f h.is_ear_lem)
+        go (no_ear_yet k) = absurd (each_of k h.among f h.is_ear)
         go (found m k) = pointiest_unique a k h
 
 -- ---- the theorem: of every ring that is met while an outline on the grid is cut, the ear that is taken is the pointiest, and the pointiest is taken

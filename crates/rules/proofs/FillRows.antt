@@ -35,14 +35,14 @@ grid_front corners = record { whole = refl; numbered = refl }
 pub record Sound (corners : List Pt) : Type 0 where
   pub three : 3 ≤ length corners
   pub at_most : length corners ≤ most_points
-  pub on_grid_lem : off_corners corners ≡ false
+  pub on_grid : off_corners corners ≡ false
 
 pub sound : (corners : List Pt) → first_refusal (before_ring corners) ≡ 0 → Sound corners
 sound corners e =
     let none = front_none (grid_front corners) e in
     let c = counted 3 most_points (2 * length corners) none in
     let off = (passes (off_corners corners) 3 [] (sym (others_decide (grid_front corners) none) ∙ e)).0 in
-    record { three = omega (arith, c.at_least); at_most = omega (arith, c.at_most); on_grid_lem = off }
+    record { three = omega (arith, c.at_least); at_most = omega (arith, c.at_most); on_grid = off }
 
 module _ (corners : List Pt) (room : ℕ) where
   abbrev short : Bool
@@ -55,7 +55,7 @@ module _ (corners : List Pt) (room : ℕ) where
   -- an outline that is filled
   pub record Filled : Type 0 where
     pub outline : Accepted corners (3 * (length corners - 2))
-    pub on_grid_lem : off_corners corners ≡ false
+    pub on_grid : off_corners corners ≡ false
     pub fits : fill_room (length corners) ≤ room
 
   pub filled : first_refusal (fill_checks corners room) ≡ 0 → Filled
@@ -77,7 +77,7 @@ module _ (corners : List Pt) (room : ℕ) where
           triangles = ts;
           is_cut = is;
         };
-        on_grid_lem = s.on_grid_lem;
+        on_grid = s.on_grid;
         fits = ltb-false room (fill_room (length corners)) ring.roomy;
       }
 
@@ -108,7 +108,7 @@ module _ (cs : List Float) (corners : List Pt) (room k : ℕ) (s : StandFor cs c
 
   same_rows : Sound corners → cutter_checks cs k ≡ fill_checks corners room
   same_rows h =
-      let p = s.points h.on_grid_lem in
+      let p = s.points h.on_grid in
       cutter_rows
       ∙ ap₂ (λ (front : List Row) (ps : List Pt). rows front ps (short_to_cut ps k)) same-front p
       ∙ ap (rows (before_ring corners) corners) (same-short h)

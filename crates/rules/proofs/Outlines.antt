@@ -59,16 +59,16 @@ pub record Outlined (least most : ℕ) (cs : List Float) : Type 0 where
   pub even : eqb (length cs % 2) 1 ≡ false
   pub at_least : least ≤ length (points_of cs)
   pub at_most : length (points_of cs) ≤ most
-  pub on_grid_lem : off_grid cs ≡ false
+  pub on_grid : off_grid cs ≡ false
 
 pub outlined : (least most : ℕ) (cs : List Float) → first_refusal (outline_checks least most cs) ≡ 0 → Outlined least most cs
 outlined least most cs e =
     let none = front_none (count-front least most cs) e in
     let c = counted least most (length cs) none in
     let off = (passes (off_grid cs) 3 [] (sym (others_decide (count-front least most cs) none) ∙ e)).0 in
-    record { even = c.even; at_least = omega (arith, c.at_least, points-length cs); at_most = omega (arith, c.at_most, points-length cs); on_grid_lem = off }
+    record { even = c.even; at_least = omega (arith, c.at_least, points-length cs); at_most = omega (arith, c.at_most, points-length cs); on_grid = off }
 
 pub outline_none : {least most : ℕ} {cs : List Float} → Outlined least most cs → first_refusal (outline_checks least most cs) ≡ 0
 outline_none {least} {most} {cs} o =
     let c : Counted least most (length cs) = record { even = o.even; at_least = omega (arith, o.at_least, points-length cs); at_most = omega (arith, o.at_most, points-length cs) } in
-    others_decide (count-front least most cs) (count_none c) ∙ row_off 4 [] o.on_grid_lem ∙ no_rows
+    others_decide (count-front least most cs) (count_none c) ∙ row_off 4 [] o.on_grid ∙ no_rows

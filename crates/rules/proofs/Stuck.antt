@@ -23,7 +23,7 @@ pub record NoEarLeft (ps : List Pt) (ring : List ℕ) : Type 0 where
   pub met : List ℕ
   pub is_met : Met ps ring met
   pub four : 4 ≤ length met
-  pub no_ear_lem : Each (λ c. ear ps c ≡ none) (corners met)
+  pub no_ear : Each (λ c. ear ps c ≡ none) (corners met)
 
 -- ---- no ear is chosen where no corner is one
 
@@ -83,12 +83,12 @@ module _ (ps : List Pt) where
       go :
           ((r : List ℕ) → length r ≡ k + 3 → Distinct r → cut_ring k ps r ≡ stuck → NoEarLeft ps r)
           → (b : Choice (Corner ℕ)) → choose ps nothing (corners ring) ≡ b → NoEarLeft ps ring
-      go rec nothing i = record { met = ring; is_met = at_first; four = omega arith; no_ear_lem = no-ears ps (corners ring) i }
+      go rec nothing i = record { met = ring; is_met = at_first; four = omega arith; no_ear = no-ears ps (corners ring) i }
       go rec (best c f) i =
           let at = (chosen_in ps (Place ring) (places ring) i).0 in
           let l : length (without c.at ring) ≡ k + 3 = omega (arith, rest-length d at) in
           let r = rec (without c.at ring) l (rest-distinct d at) (write-stuck c (cut_ring k ps (without c.at ring)) (rw (i, cut_ring) at e)) in
-          record { met = r.met; is_met = met_after i r.is_met; four = r.four; no_ear_lem = r.no_ear_lem }
+          record { met = r.met; is_met = met_after i r.is_met; four = r.four; no_ear = r.no_ear }
 
   -- ---- and back
 
@@ -109,7 +109,7 @@ module _ (ps : List Pt) where
   at-stuck : (k : ℕ) (ring : List ℕ) → length ring ≡ k + 3 → Distinct ring → NoEarLeft ps ring → cut_ring k ps ring ≡ stuck
   at-stuck k ring n d h =
       let j = length h.met - 4 in
-      met_stuck d h.is_met (suc j) k (omega (arith, h.four)) n (none_stuck j h.met h.no_ear_lem)
+      met_stuck d h.is_met (suc j) k (omega (arith, h.four)) n (none_stuck j h.met h.no_ear)
 
 -- ---- the theorem, for an outline of three or more
 

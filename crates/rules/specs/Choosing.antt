@@ -14,6 +14,6 @@ EachEar ps cs P = Each (λ d. (g : Float) → ear ps d ≡ pointed g → P d g) 
 -- c is one of the corners and an ear, and f is its pointiness; no ear's pointiness is greater, and of those where it is equal, none has a higher index
 pub record Pointiest (ps : List Pt) (cs : List (Corner ℕ)) (c : Corner ℕ) (f : Float) : Type 0 where
   pub among : Memᴰ c cs
-  pub is_ear_lem : ear ps c ≡ pointed f
+  pub is_ear : ear ps c ≡ pointed f
   pub greatest : EachEar ps cs (λ d g. le g f ≡ true)
   pub highest : EachEar ps cs (λ d g. le f g ≡ true → d.at ≤ c.at)

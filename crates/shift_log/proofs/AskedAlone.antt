@@ -30,13 +30,13 @@ pub record Corners (s : InForce) : Type 0 where
   pub corners : List Pt
   pub is : s.coords ≡ coordinates corners
   pub few : length corners ≤ most_points
-  pub on_grid_lem : off_corners corners ≡ false
+  pub on_grid : off_corners corners ≡ false
 
 pub corners_of_lem : {s : InForce} → Sound s → Corners s
 unfolding coordinates off_corners
-corners_of_lem nothing-sound = record { corners = []; is = refl; few = omega arith; on_grid_lem = refl }
-corners_of_lem (outline_sound cs a b d) = record { corners = cs; is = refl; few = b; on_grid_lem = d }
-corners_of_lem (convex-sound cs a d) = record { corners = cs; is = refl; few = omega (arith, a); on_grid_lem = d }
+corners_of_lem nothing-sound = record { corners = []; is = refl; few = omega arith; on_grid = refl }
+corners_of_lem (outline_sound cs a b d) = record { corners = cs; is = refl; few = b; on_grid = d }
+corners_of_lem (convex-sound cs a d) = record { corners = cs; is = refl; few = omega (arith, a); on_grid = d }
 
 module _ (corners : List Pt) (few : length corners ≤ most_points) (on_grid_lem : off_corners corners ≡ false) (p : Pt) where
   outline : Outlined 0 most_points (coordinates corners)
@@ -44,7 +44,7 @@ module _ (corners : List Pt) (few : length corners ≤ most_points) (on_grid_lem
     even = rw (coordinates-length corners) (even (length corners));
     at_least = omega arith;
     at_most = omega (arith, ap length (points_read corners on_grid_lem));
-    on_grid_lem = off_grid_read corners ∙ on_grid_lem;
+    on_grid = off_grid_read corners ∙ on_grid_lem;
   }
 
   rows : first_refusal (point_test_checks (coordinate p.x) (coordinate p.y) (coordinates corners)) ≡ first_refusal (off_corners (p ∷ []) gives 4 ∷ [])
@@ -81,7 +81,7 @@ module _ (s : InForce) (c : Corners s) (p : Pt) where
       ∙ ap (λ (l : List Float). told (asking (test_of s.convex) (coordinate p.x) (coordinate p.y) l)) c.is
 
   pub point-told : off_corners (p ∷ []) ≡ false → reply s (some (point p)) ≡ place (test_of s.convex p c.corners)
-  point-told h = asks ∙ answered c.corners c.few c.on_grid_lem p s.convex h
+  point-told h = asks ∙ answered c.corners c.few c.on_grid p s.convex h
 
   pub point-off : off_corners (p ∷ []) ≡ true → reply s (some (point p)) ≡ number 4
-  point-off h = asks ∙ refused c.corners c.few c.on_grid_lem p s.convex h
+  point-off h = asks ∙ refused c.corners c.few c.on_grid p s.convex h

@@ -78,4 +78,4 @@ area_first corners r = partly_none r
 
 -- corner numbers that are known are known in each part
 pub known_part : {coords : List Float} {store : List ℕ} (n from : ℕ) → Known coords store → Known coords (take n (drop from store))
-known_part {coords} {store} n from k = record { on_grid_lem = k.on_grid_lem; below = each_take n (drop from store) (each-drop from store k.below) }
+known_part {coords} {store} n from k = record { on_grid = k.on_grid; below = each_take n (drop from store) (each-drop from store k.below) }

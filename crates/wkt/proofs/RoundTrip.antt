@@ -62,7 +62,7 @@ none_applies corners some few on_grid_lem room fits =
       even = rw (coordinates-length corners) (even (length corners));
       at_least = omega (arith, not-empty corners some);
       at_most = omega arith;
-      on_grid_lem = off_grid_read corners ∙ on_grid_lem;
+      on_grid = off_grid_read corners ∙ on_grid_lem;
     } in
     others_decide (polygon-front cs room) (outline_none outline) ∙ row_off 6 [] (le-ltb room (polygon_room (length (points_of cs))) (omega arith)) ∙ no_rows
   where
@@ -91,7 +91,7 @@ module _ {line : List ℕ} {coords after : List Float} {r : Answer} (reads : Rea
     pub same_line : s.number ≡ 0 → take s.count text ≡ line
     same_line done =
         let g = given in
-        let off : off_corners g.corners ≡ false = sym (off_grid_read g.corners) ∙ (subst (λ (cs : List Float). Outlined 1 most_points cs) g.held (accepted _ out (none wrote done))).on_grid_lem in
+        let off : off_corners g.corners ≡ false = sym (off_grid_read g.corners) ∙ (subst (λ (cs : List Float). Outlined 1 most_points cs) g.held (accepted _ out (none wrote done))).on_grid in
         written-text wrote done ∙ ap (λ (cs : List Float). polygon_line (points_of cs)) g.held ∙ ap polygon_line (points_read g.corners off) ∙ written_back line g.corners g.form
 
     -- and one is, where the corners are on the grid and there is room

@@ -56,7 +56,7 @@ module _ (cs : List Float) (out : List ℕ) where
     enough = ltb-false (length out) (polygon_room (length ps)) (passes (ltb (length out) (polygon_room (length ps))) 5 [] (sym (others_decide (polygon-front cs (length out)) first_none) ∙ none)).0
 
     pub short : length (polygon_line ps) ≤ polygon_room (length ps)
-    short = polygon-short ps (grid_points cs accepted.on_grid_lem)
+    short = polygon-short ps (grid_points cs accepted.on_grid)
 
     pub line-room : Room out 0 (polygon_line ps)
     line-room = record { fits = omega (arith, enough, short) }
@@ -87,7 +87,7 @@ all-numbers cs all outline numbers =
       within = omega (arith, ap length numbers, count-length 0 most_points, outline.at_most, points-length cs);
       size = sym size;
       some = omega (arith, outline.at_least, points-length cs);
-      known = record { on_grid_lem = outline.on_grid_lem; below = rw ring (each_imp below (count-within 0 n)) };
+      known = record { on_grid = outline.on_grid; below = rw ring (each_imp below (count-within 0 n)) };
       corners = ap (points (points_of cs)) (ring ∙ ap (count_from 0) (sym (points-length cs))) ∙ all-points (points_of cs);
     }
   where

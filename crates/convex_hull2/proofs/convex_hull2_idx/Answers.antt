@@ -42,7 +42,7 @@ rightmost-a-requires c =
     let passed : Outlined 2 most_points c.args.coords.now = outlined 2 most_points _ (sym c.outline_refusal-number.ensures ∙ c.if-number-ne0.false) in
     let numbered : take (length c.args.coords.now / 2) c.number_all.new.all ≡ count_from 0 (length (points_of c.args.coords.now)) = c.number_all.ensures ∙ ap (count_from 0) (sym (points-length c.args.coords.now)) in
     let some : 0 < length (points_of c.args.coords.now) = omega (arith, passed.at_least) in
-    record { coords_value = passed.on_grid_lem; nonzero = some; all_value = numbered }
+    record { coords_value = passed.on_grid; nonzero = some; all_value = numbered }
 
 pub slice_bounds-all-end-2 : goal.slice_bounds-all-end-2
 slice_bounds-all-end-2 c =
@@ -61,13 +61,13 @@ leftmost-b-requires c =
     let passed : Outlined 2 most_points c.args.coords.now = outlined 2 most_points _ (sym c.outline_refusal-number.ensures ∙ c.if-number-ne0.false) in
     let numbered : take (length c.args.coords.now / 2) c.number_all.new.all ≡ count_from 0 (length (points_of c.args.coords.now)) = c.number_all.ensures ∙ ap (count_from 0) (sym (points-length c.args.coords.now)) in
     let some : 0 < length (points_of c.args.coords.now) = omega (arith, passed.at_least) in
-    record { coords_value = passed.on_grid_lem; nonzero = some; all_value = numbered }
+    record { coords_value = passed.on_grid; nonzero = some; all_value = numbered }
 
 pub on_one_line-requires : goal.on_one_line-requires
 on_one_line-requires c =
     let passed : Outlined 2 most_points c.args.coords.now = outlined 2 most_points _ (sym c.outline_refusal-number.ensures ∙ c.if-number-ne0.false) in
     let some : 0 < length (points_of c.args.coords.now) = omega (arith, passed.at_least) in
-    record { coords_value = passed.on_grid_lem; nonzero = some; a_value = (c.rightmost-a.ensures, c.leftmost-b.ensures) }
+    record { coords_value = passed.on_grid; nonzero = some; a_value = (c.rightmost-a.ensures, c.leftmost-b.ensures) }
 
 pub returns-then-on_one_line : goal.returns-then-on_one_line
 returns-then-on_one_line c = on_line _ _ c.outline_refusal-number.ensures c.if-number-ne0.false (sym c.on_one_line.ensures ∙ c.if-on_one_line.true)
@@ -96,7 +96,7 @@ walk-count-requires c =
     let numbered : take (length c.args.coords.now / 2) c.number_all.new.all ≡ count_from 0 (length (points_of c.args.coords.now)) = c.number_all.ensures ∙ ap (count_from 0) (sym (points-length c.args.coords.now)) in
     let p = passed in
     let room : length (points_of c.args.coords.now) ≤ length c.args.indices.now = omega (arith, c.if-indices-n.false, points-length c.args.coords.now) in
-    record { coords_value = p.on_grid_lem; coords_len_bound = (p.at_most, room); all_value = numbered; a_value = (c.rightmost-a.ensures, c.leftmost-b.ensures); coords_value_2 = off }
+    record { coords_value = p.on_grid; coords_len_bound = (p.at_most, room); all_value = numbered; a_value = (c.rightmost-a.ensures, c.leftmost-b.ensures); coords_value_2 = off }
 
 pub shape_of-indices : goal.shape_of-indices
 shape_of-indices c = c.walk-count.auto.indices

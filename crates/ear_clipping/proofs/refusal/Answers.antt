@@ -72,7 +72,7 @@ returns-then-number-ne0 c = outline _ _ c.outline_refusal-number.ensures c.if-nu
 
 pub equal_neighbours-requires : goal.equal_neighbours-requires
 equal_neighbours-requires c =
-    record { coords_value = (facts _ 0 c.outline_refusal-number.ensures c.if-number-ne0.false).on_grid_lem; nonzero = some _ 0 c.outline_refusal-number.ensures c.if-number-ne0.false }
+    record { coords_value = (facts _ 0 c.outline_refusal-number.ensures c.if-number-ne0.false).on_grid; nonzero = some _ 0 c.outline_refusal-number.ensures c.if-number-ne0.false }
 
 pub returns-then-equal_neighbours : goal.returns-then-equal_neighbours
 returns-then-equal_neighbours c =
@@ -81,7 +81,7 @@ returns-then-equal_neighbours c =
 pub area2-requires : goal.area2-requires
 area2-requires c =
     let f = facts _ 0 c.outline_refusal-number.ensures c.if-number-ne0.false in
-    record { coords_value = f.on_grid_lem; nonzero = (some _ 0 c.outline_refusal-number.ensures c.if-number-ne0.false, f.at_most) }
+    record { coords_value = f.on_grid; nonzero = (some _ 0 c.outline_refusal-number.ensures c.if-number-ne0.false, f.at_most) }
 
 pub returns-then-area2-le0 : goal.returns-then-area2-le0
 returns-then-area2-le0 c =

@@ -14,7 +14,7 @@ cut-count-requires c =
     let r = ready _ _ (sym c.refusal-number.ensures ∙ c.if-number-ne0.false) in
     let o = r.outlines in
     let l = points-length c.args.coords.now in
-    record { coords_value = o.on_grid_lem; le_n = (omega (arith, o.at_least), omega (arith, o.at_most), sym l); n_in_bounds = omega (arith, r.fits) }
+    record { coords_value = o.on_grid; le_n = (omega (arith, o.at_least), omega (arith, o.at_most), sym l); n_in_bounds = omega (arith, r.fits) }
 
 pub returns-then-count-eq0 : goal.returns-then-count-eq0
 returns-then-count-eq0 c =

@@ -11,7 +11,7 @@ returns-then-number-ne0 c = refused _ _ _ _ _ c.refusal-number.ensures c.if-numb
 pub merge-count-requires : goal.merge-count-requires
 merge-count-requires c =
     let r = in_range _ _ _ _ (sym c.refusal-number.ensures ∙ c.if-number-ne0.false) in
-    record { known = (record { on_grid_lem = r.outlines.on_grid_lem; below = r.below }, r.outlines.at_most); triangles_len = (r.whole, omega (arith, r.whole, r.few)); triangles_in_bounds = (r.fits, r.fits_lengths) }
+    record { known = (record { on_grid = r.outlines.on_grid; below = r.below }, r.outlines.at_most); triangles_len = (r.whole, omega (arith, r.whole, r.few)); triangles_in_bounds = (r.fits, r.fits_lengths) }
 
 pub overflow_cast-result : goal.overflow_cast-result
 overflow_cast-result c = omega (arith, c.merge-count.ensures.upper_bound)

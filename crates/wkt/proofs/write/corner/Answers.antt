@@ -8,7 +8,7 @@ use Rattle.wkt.proofs.write.corner.Goals as goal
 
 pub point_at-requires : goal.point_at-requires
 point_at-requires c =
-    record { coords_value = c.requires.known.on_grid_lem; i_in_bounds = rw c.wide.ensures (point_fits _ _ (each_at 0 _ _ c.requires.i_in_bounds c.requires.known.below)) }
+    record { coords_value = c.requires.known.on_grid; i_in_bounds = rw c.wide.ensures (point_fits _ _ (each_at 0 _ _ c.requires.i_in_bounds c.requires.known.below)) }
 
 pub returns : goal.returns
 returns c =
