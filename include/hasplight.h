@@ -1,7 +1,7 @@
 /* Hasplight for C and C++: link target/staticlib/libhasplight.a, which `./run --archive hasplight` writes.
  *
- * Each coordinate (an f32), mark, index or length stands as four bytes, low byte first. A slice is an address, which is not null
- * even where the slice is empty, and a number of bytes; bytes past the last whole four are neither read nor written. What is lent to
+ * Each coordinate (an f32), index or length stands as four bytes, low byte first. A slice is an address, which is not null even
+ * where the slice is empty, and a number of bytes; bytes past the last whole four are neither read nor written. What is lent to
  * be written must not overlap anything else that is lent in the same call.
  *
  * Every input is answered, or refused by a number. A refusal reports 0 beside its number and changes no lent byte. After 0 the
@@ -10,13 +10,13 @@
  * No call takes memory from a heap. On the stack, by the compiled archive, cutting takes 40,000 bytes at most, merging 38,500, filling
  * a line with areas 52,500, with triangles 46,500, a hull 13,500, and a point test 100; none of its arrays is larger than 7,000 bytes.
  *
- *   1  odd number of coordinates, or not     6  an output buffer too short
- *      a mark for each point                 7  a ring of four or more, met while cutting, has no ear
- *   2  fewer than 3 points, or 2 of a hull   8  triangle list not a multiple of three
- *   3  more than 512 points                  9  a triangle index not below the number of points
- *   4  a coordinate, or the asked point,    10  more than 510 triangles
- *      is off the grid                      11  a line that is not in form, or too long
- *   5  two ring neighbours equal            12  all points on one line
+ *   1  odd number of coordinates             6  an output buffer too short
+ *   2  fewer than 3 points, or 2 of a hull   7  a ring of four or more, met while cutting, has no ear
+ *   3  more than 512 points                  8  triangle list not a multiple of three
+ *   4  a coordinate, or the asked point,     9  a triangle index not below the number of points
+ *      is off the grid                      10  more than 510 triangles
+ *   5  two ring neighbours equal            11  a line that is not in form, or too long
+ *                                           12  all points on one line
  *                                           13  an outline's area is not above zero: it goes clockwise, or has none
  */
 #ifndef HASPLIGHT_H
@@ -51,12 +51,10 @@ struct hasplight_answer hasplight_triangulate_ear_clipping(
     uint8_t *indices, size_t indices_bytes);
 
 /* Merges m triangles, three indices each, into pieces: their indices one behind the other, to the front of `indices`, which has
- * room for 3 m of them, and the length of each to the front of `lengths`, which has room for m. There is a mark for each point, and
- * any number but zero marks it; no join is made across an edge whose two ends are marked. Refuses with 1, 3, 4, 8, 10, 9, 6, in this
- * order. */
+ * room for 3 m of them, and the length of each to the front of `lengths`, which has room for m. Refuses with 1, 3, 4, 8, 10, 9, 6,
+ * in this order. */
 struct hasplight_answer hasplight_hertel_mehlhorn_idx(
     const uint8_t *coords, size_t coords_bytes,
-    const uint8_t *marks, size_t marks_bytes,
     const uint8_t *triangles, size_t triangles_bytes,
     uint8_t *indices, size_t indices_bytes,
     uint8_t *lengths, size_t lengths_bytes);

@@ -2,7 +2,7 @@
 use crate::hull::Tally;
 use crate::inputs::Side;
 use crate::lent::Lent;
-use crate::{expected, merger, ours, text};
+use crate::{expected, ours, text};
 
 fn differ(entry: &str, inputs: &str, ours: &str, theirs: &str) -> ! {
     eprintln!("{entry}: {inputs}\n  ours:     {ours}\n  expected: {theirs}");
@@ -19,7 +19,6 @@ pub struct Linked {
     /// Spots on the border of an outline.
     pub border: u64,
     pub filled: u64,
-    pub joints: merger::Tally,
     pub hulls: Tally,
 }
 
@@ -58,20 +57,17 @@ impl Side for Linked {
         (r.number == 0).then(|| a.read()[..12 * r.count as usize].to_vec())
     }
 
-    fn merge(&mut self, coords: &[u8], marks: &[u8], triangles: &[u8], room: usize, places: usize) {
+    fn merge(&mut self, coords: &[u8], triangles: &[u8], room: usize, places: usize) {
         let (mut a, mut b) = (Lent::new(room), Lent::new(room));
         let (mut c, mut d) = (Lent::new(places), Lent::new(places));
-        let r = ours::hertel_mehlhorn_idx(coords, marks, triangles, a.lent(), c.lent());
-        let s = expected::hertel_mehlhorn_idx(coords, marks, triangles, b.lent(), d.lent());
+        let r = ours::hertel_mehlhorn_idx(coords, triangles, a.lent(), c.lent());
+        let s = expected::hertel_mehlhorn_idx(coords, triangles, b.lent(), d.lent());
         if r != s || a != b || c != d {
-            let inputs = format!("coords {coords:?}, marks {marks:?}, triangles {triangles:?}, {room} and {places} bytes of room");
+            let inputs = format!("coords {coords:?}, triangles {triangles:?}, {room} and {places} bytes of room");
             let show = |x: &Lent, y: &Lent| format!("{:?} {:?}", x.read(), y.read());
             differ("merge", &inputs, &format!("{r:?} {}", show(&a, &c)), &format!("{s:?} {}", show(&b, &d)));
         }
         self.inputs += 1;
-        if s.number == 0 && expected::any_marked(marks) {
-            self.joints.add(expected::joint_changed(coords, triangles, b.read(), d.read()));
-        }
     }
 
     fn ask(&mut self, x: f32, y: f32, coords: &[u8]) {

@@ -1,11 +1,11 @@
-//! What must come back: the refusals in document 01's order, with request M-105's between 5 and 6 and M-108's in the row of 1, and on accepted
-//! input what the crate gives; of a cut where a point is passed twice, what request M-103 gives, of a merge where a point is marked, what request
-//! M-108 gives, of a hull, what request M-104 gives, and of a spot on the border of an outline, what request M-106 gives.
+//! What must come back: the refusals in document 01's order, with request M-105's between 5 and 6, and on accepted input what the crate
+//! gives; of a cut where a point is passed twice, what request M-103 gives, of a hull, what request M-104 gives, and of a spot on the border of an
+//! outline, what request M-106 gives.
 use crate::hull::{self, Relation};
 use crate::lent::{bytes_of, words};
 use crate::math::Vector;
 use crate::plane::{area2, on_border, whole};
-use crate::{cutter, merger, parry};
+use crate::{cutter, parry};
 
 #[repr(C)]
 #[derive(Clone, Copy, Debug, PartialEq, Eq)]
@@ -92,48 +92,11 @@ pub fn triangulate_ear_clipping(coords: &[u8], indices: &mut [u8]) -> Answer {
     }
 }
 
-fn triples(list: &[u32]) -> Vec<[u32; 3]> {
-    list.chunks_exact(3).map(|c| [c[0], c[1], c[2]]).collect()
-}
-
-/// The crate's pieces, or those of the second merger where a point is marked. Elsewhere both must be the same; and an edge whose two ends are
-/// marked must be in the pieces as often as in the triangles.
-fn merge(ps: &[Vector], marks: &[u32], triangles: &[[u32; 3]]) -> Vec<Vec<u32>> {
-    let second = merger::merge(ps, marks, triangles);
-    if marks.iter().any(|&m| m != 0) {
-        let (left, given) = (merger::joints(&second, marks), merger::joints(triangles, marks));
-        assert_eq!(left, given, "the joints of {second:?} and of {triangles:?} with the marks {marks:?}");
-        return second;
-    }
-    let first = parry::hertel_mehlhorn_idx(ps, triangles);
-    assert_eq!(first, second, "the crate's merge and the second merger's of {triangles:?} over {ps:?}");
-    first
-}
-
-/// The bytes of all pieces' corners, and those of the pieces' lengths.
-fn bytes_of_pieces(pieces: &[Vec<u32>]) -> [Vec<u8>; 2] {
-    let sizes: Vec<u32> = pieces.iter().map(|p| p.len() as u32).collect();
-    [bytes_of(&pieces.concat()), bytes_of(&sizes)]
-}
-
-/// Whether some point is marked in these bytes.
-pub fn any_marked(marks: &[u8]) -> bool {
-    words(marks).iter().any(|&m| m != 0)
-}
-
-/// Whether the pieces of a merge that is accepted are others than the crate's, as they are without marks.
-pub fn joint_changed(coords: &[u8], triangles: &[u8], indices: &[u8], lengths: &[u8]) -> bool {
-    let theirs = parry::hertel_mehlhorn_idx(&points(&floats(coords)), &triples(&words(triangles)));
-    let [corners, sizes] = bytes_of_pieces(&theirs);
-    !indices.starts_with(&corners) || !lengths.starts_with(&sizes)
-}
-
-pub fn hertel_mehlhorn_idx(coords: &[u8], marks: &[u8], triangles: &[u8], indices: &mut [u8], lengths: &mut [u8]) -> Answer {
+pub fn hertel_mehlhorn_idx(coords: &[u8], triangles: &[u8], indices: &mut [u8], lengths: &mut [u8]) -> Answer {
     let fs = floats(coords);
     let ps = points(&fs);
-    let ms = words(marks);
     let ts = words(triangles);
-    if fs.len() % 2 == 1 || ms.len() != ps.len() {
+    if fs.len() % 2 == 1 {
         return refused(1);
     }
     if ps.len() > 512 {
@@ -154,10 +117,12 @@ pub fn hertel_mehlhorn_idx(coords: &[u8], marks: &[u8], triangles: &[u8], indice
     if indices.len() / 4 < ts.len() || lengths.len() / 4 < ts.len() / 3 {
         return refused(6);
     }
-    let pieces = merge(&ps, &ms, &triples(&ts));
-    let [corners, sizes] = bytes_of_pieces(&pieces);
-    indices[..corners.len()].copy_from_slice(&corners);
-    lengths[..sizes.len()].copy_from_slice(&sizes);
+    let given: Vec<[u32; 3]> = ts.chunks_exact(3).map(|c| [c[0], c[1], c[2]]).collect();
+    let pieces = parry::hertel_mehlhorn_idx(&ps, &given);
+    let written = bytes_of(&pieces.concat());
+    indices[..written.len()].copy_from_slice(&written);
+    let sizes: Vec<u32> = pieces.iter().map(|p| p.len() as u32).collect();
+    lengths[..4 * sizes.len()].copy_from_slice(&bytes_of(&sizes));
     Answer { number: 0, count: pieces.len() as u32 }
 }
 

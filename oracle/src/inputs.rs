@@ -9,7 +9,7 @@ use crate::slots;
 pub trait Side {
     /// The written bytes, where the cut is accepted.
     fn cut(&mut self, coords: &[u8], room: usize) -> Option<Vec<u8>>;
-    fn merge(&mut self, coords: &[u8], marks: &[u8], triangles: &[u8], room: usize, places: usize);
+    fn merge(&mut self, coords: &[u8], triangles: &[u8], room: usize, places: usize);
     /// Both point tests.
     fn ask(&mut self, x: f32, y: f32, coords: &[u8]);
     fn hull(&mut self, coords: &[u8], room: usize);
@@ -20,9 +20,6 @@ pub trait Side {
 const FLOATS: [f32; 14] = [
     1024.0, -1024.0, 1025.0, -1025.0, 1024.5, 0.5, -0.0, 1.0e-45, -1.0e-40, f32::NAN, f32::INFINITY, f32::NEG_INFINITY, f32::MAX, 8388608.0,
 ];
-
-/// Marks other than zero: in each of the four bytes, in the highest bit alone, and in all bits.
-const MARKS: [u32; 6] = [1, 0x100, 0x1_0000, 0x100_0000, 0x8000_0000, u32::MAX];
 
 const OUTLINES: usize = 1 + 9 + 81 + 729 + 6561;
 const SETS: [[i32; 8]; 4] = [[0, 0, 2, 0, 2, 2, 0, 2], [0, 0, 4, 0, 1, 1, 0, 4], [0, 0, 1, 0, 2, 0, 3, 0], [1, 1, 1, 1, 0, 2, 2, 0]];
@@ -46,20 +43,12 @@ fn digits(mut i: usize, base: usize, lens: &[usize]) -> Vec<usize> {
     unreachable!("there are not so many")
 }
 
-/// Marks of so many points: of those whose bit in a number is 1.
-pub fn subset_marks(points: usize, subset: usize) -> Vec<u8> {
-    bytes_of(&(0..points).map(|p| MARKS[(p + subset) % MARKS.len()] * (subset >> p & 1) as u32).collect::<Vec<_>>())
-}
-
-/// An outline of up to four corners on three by three points, cut, merged and asked at all points in and round it; and its hull. It is merged with
-/// no corner marked, and with one of the sixteen subsets in turn.
+/// An outline of up to four corners on three by three points, cut, merged and asked at all points in and round it; and its hull.
 fn short_outline(side: &mut impl Side, i: usize) {
     let outline: Outline = digits(i, 9, &[0, 1, 2, 3, 4]).into_iter().map(|d| ((d % 3) as i32, (d / 3) as i32)).collect();
     let bytes = bytes_of_floats(&coords(&outline));
     if let Some(triangles) = side.cut(&bytes, 12 * outline.len().saturating_sub(2)) {
-        for subset in [0, i % 16] {
-            side.merge(&bytes, &subset_marks(outline.len(), subset), &triangles, triangles.len(), triangles.len() / 3);
-        }
+        side.merge(&bytes, &triangles, triangles.len(), triangles.len() / 3);
     }
     for p in 0..25 {
         side.ask((p % 5) as f32 - 1.0, (p / 5) as f32 - 1.0, &bytes);
@@ -67,24 +56,11 @@ fn short_outline(side: &mut impl Side, i: usize) {
     side.hull(&bytes, 4 * outline.len());
 }
 
-/// Whether a list is two triangles of three corners each that have an edge in common, in opposite directions.
-fn adjacent(list: &[u32]) -> bool {
-    let edges = |t: &[u32]| [[t[0], t[1]], [t[1], t[2]], [t[2], t[0]]];
-    let proper = |t: &[u32]| edges(t).iter().all(|[a, b]| a != b);
-    list.len() == 6 && list.chunks(3).all(proper) && edges(&list[..3]).iter().any(|&[s, e]| edges(&list[3..]).contains(&[e, s]))
-}
-
-/// A list of up to two triangles over four points, and an index past them: with no point marked; and where no index is past them, with one of the
-/// sixteen subsets in turn, which is another with each of the four sets, or with all sixteen where two proper triangles have a common edge.
+/// A list of up to two triangles over four points, and an index past them.
 fn short_list(side: &mut impl Side, i: usize) {
-    let (set, number) = (i % SETS.len(), i / SETS.len());
-    let bytes = bytes_of_floats(&SETS[set].map(|c| c as f32));
-    let list: Vec<u32> = digits(number, 5, &[0, 3, 6]).into_iter().map(|d| d as u32).collect();
-    let turn = (number + 4 * set) % 16;
-    let in_range = list.iter().all(|&i| i < 4);
-    for subset in (0..16).filter(|&s| s == 0 || in_range && (s == turn || adjacent(&list))) {
-        side.merge(&bytes, &subset_marks(4, subset), &bytes_of(&list), 4 * list.len(), 4 * (list.len() / 3));
-    }
+    let bytes = bytes_of_floats(&SETS[i % SETS.len()].map(|c| c as f32));
+    let list: Vec<u32> = digits(i / SETS.len(), 5, &[0, 3, 6]).into_iter().map(|d| d as u32).collect();
+    side.merge(&bytes, &bytes_of(&list), 4 * list.len(), 4 * (list.len() / 3));
 }
 
 /// Number `i` of the short inputs.
@@ -158,45 +134,6 @@ fn random_list(r: &mut Random, points: usize) -> Vec<u8> {
     bytes_of(&(0..n).map(|_| r.below(points.max(1)) as u32).collect::<Vec<_>>())
 }
 
-fn mark(r: &mut Random) -> u32 {
-    match r.below(MARKS.len() + 2) {
-        i if i < MARKS.len() => MARKS[i],
-        _ => (r.next() as u32).max(1),
-    }
-}
-
-/// Marks of so many points: of none of them, of all, of half of them, of a few, or of runs of neighbours.
-pub fn random_marks(r: &mut Random, points: usize) -> Vec<u8> {
-    let kind = r.below(6);
-    let mut run = r.below(2) == 0;
-    let mut next = || {
-        run ^= r.below(4) == 0;
-        let marked = match kind {
-            0 => false,
-            1 => true,
-            2 => r.below(8) == 0,
-            3 => run,
-            _ => r.below(2) == 0,
-        };
-        if marked { mark(r) } else { 0 }
-    };
-    bytes_of(&(0..points).map(|_| next()).collect::<Vec<_>>())
-}
-
-/// Marks as they are, or now and then damaged, one too few or too many, none, as many as coordinates, or with stray bytes behind them.
-fn miscounted(r: &mut Random, mut marks: Vec<u8>) -> Vec<u8> {
-    match r.below(16) {
-        0 => return damaged(r, &marks),
-        1 => marks.truncate(marks.len().saturating_sub(4)),
-        2 => marks.extend(mark(r).to_le_bytes()),
-        3 => marks.clear(),
-        4 => marks.extend_from_within(..),
-        5..=7 => marks.resize(marks.len() + 1 + r.below(3), r.next() as u8),
-        _ => {}
-    }
-    marks
-}
-
 /// A point on the line of an edge: on the edge, or one step beyond an end.
 fn along_edge(r: &mut Random, outline: &Outline) -> (i32, i32) {
     let i = r.below(outline.len());
@@ -259,9 +196,7 @@ fn random_outlines(side: &mut impl Side, r: &mut Random) {
         };
         let list = if round < 2 { list } else { damaged(r, &list) };
         let (room, places) = if round < 3 { (list.len(), list.len() / 3) } else { (about(r, list.len()), about(r, list.len() / 3)) };
-        let marks = random_marks(r, bytes.len() / 8);
-        let marks = if round < 2 { marks } else { miscounted(r, marks) };
-        side.merge(&bytes, &marks, &list, room, places);
+        side.merge(&bytes, &list, room, places);
         for _ in 0..4 {
             random_ask(side, r, &outline, &bytes);
         }

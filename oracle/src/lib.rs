@@ -17,7 +17,6 @@ pub mod lent;
 pub mod lines;
 pub mod logs;
 pub mod math;
-pub mod merger;
 #[cfg(feature = "linked")]
 pub mod ours;
 pub mod plane;

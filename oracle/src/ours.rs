@@ -7,7 +7,7 @@ use crate::expected::{Answer, Verdict};
 #[link(name = "hasplight", kind = "static")]
 extern "C" {
     fn hasplight_triangulate_ear_clipping(coords: &[u8], indices: &mut [u8]) -> Answer;
-    fn hasplight_hertel_mehlhorn_idx(coords: &[u8], marks: &[u8], triangles: &[u8], indices: &mut [u8], lengths: &mut [u8]) -> Answer;
+    fn hasplight_hertel_mehlhorn_idx(coords: &[u8], triangles: &[u8], indices: &mut [u8], lengths: &mut [u8]) -> Answer;
     fn hasplight_point_in_poly2d(x: f32, y: f32, coords: &[u8]) -> Verdict;
     fn hasplight_point_in_convex_poly2d(x: f32, y: f32, coords: &[u8]) -> Verdict;
     fn hasplight_convex_hull2_idx(coords: &[u8], indices: &mut [u8]) -> Answer;
@@ -28,8 +28,8 @@ pub fn triangulate_ear_clipping(coords: &[u8], indices: &mut [u8]) -> Answer {
     unsafe { hasplight_triangulate_ear_clipping(coords, indices) }
 }
 
-pub fn hertel_mehlhorn_idx(coords: &[u8], marks: &[u8], triangles: &[u8], indices: &mut [u8], lengths: &mut [u8]) -> Answer {
-    unsafe { hasplight_hertel_mehlhorn_idx(coords, marks, triangles, indices, lengths) }
+pub fn hertel_mehlhorn_idx(coords: &[u8], triangles: &[u8], indices: &mut [u8], lengths: &mut [u8]) -> Answer {
+    unsafe { hasplight_hertel_mehlhorn_idx(coords, triangles, indices, lengths) }
 }
 
 pub fn point_in_poly2d(x: f32, y: f32, coords: &[u8]) -> Verdict {

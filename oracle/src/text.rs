@@ -94,7 +94,7 @@ pub fn plan(line: &[u8], triangles_only: bool, room: usize) -> Result<String, u3
     let mut indices = triangles.clone();
     let mut count = n - 2;
     if !triangles_only {
-        let merged = expected::hertel_mehlhorn_idx(&coords, &vec![0; 4 * n], &triangles, &mut indices, &mut lengths);
+        let merged = expected::hertel_mehlhorn_idx(&coords, &triangles, &mut indices, &mut lengths);
         assert_eq!(merged.number, 0, "the merger takes what the cutter gives");
         count = merged.count as usize;
     }

@@ -2,9 +2,8 @@
 -- that loses an element, or that is joined from two rings at the edge which they share.
 use Prim.Native.Nat.{ℕ, suc}
 use mathlib.Core.Path.{◌≡◌, refl, sym, ◌∙◌, ap, ap₂}
-use mathlib.Core.Logic.{◌⊎◌, inl, inr, ◌≢◌}
-use mathlib.Core.List.Memᴰ
-use mathlib.Core.List.{List, [], ◌∷◌, ◌++◌, map, map-append, append_assoc, append-nil, Memᴰ}
+use mathlib.Core.Logic.{◌≢◌}
+use mathlib.Core.List.{List, [], ◌∷◌, ◌++◌, map, map-append, append_assoc, append-nil}
 use native.Mathlib.Omega.{arith}
 use lib.ListN.{length, take, drop, length-append, take-append-drop}
 use lib.Seq.{take_at, drop_at}
@@ -15,7 +14,7 @@ use Rattle.algebra.proofs.Sums.{total_++, total_swap, insert, left_comm, idr}
 use Rattle.algebra.specs.Rings.{Edge, Corner, steps, edges, bends, corners, last_of, first_of, begun_at, rotations_from, rotations, around}
 
 module _ {A : Type 0} where
-  abbrev pub edge : A → A → Edge A
+  abbrev edge : A → A → Edge A
   edge a b = record { from = a; to = b }
 
   pub last_++ : (a : A) (l : List A) (b : A) (m : List A) → last_of a (l ++ b ∷ m) ≡ last_of b m
@@ -121,26 +120,6 @@ module _ {A : Type 0} where
   pub rotated_length : {l m : List A} → Rotated l m → length l ≡ length m
   rotated_length t = rw (t.was, t.now, length-append t.front t.back, length-append t.back t.front) (omega arith)
 
-  -- the ring begun at one of its elements
-  pub begun-with : {a : A} (l : List A) → Memᴰ a l → (rest : List A) × Rotated l (a ∷ rest)
-  begun-with l m = begun [] l m
-    where
-      begun : {a : A} (passed l : List A) → Memᴰ a l → (rest : List A) × Rotated (passed ++ l) (a ∷ rest)
-      begun passed [] m = absurd (Memᴰ.not-nil m)
-      begun {a} passed (b ∷ l) m = go (begun (passed ++ b ∷ []) l) (Memᴰ.cases_cons m)
-        where
-          go : (Memᴰ a l → (rest : List A) × Rotated ((passed ++ b ∷ []) ++ l) (a ∷ rest)) → (a ≡ b) ⊎ Memᴰ a l → (rest : List A) × Rotated (passed ++ b ∷ l) (a ∷ rest)
-          go rec (inl e) = (l ++ passed, rw e (swapped passed (b ∷ l)))
-          go rec (inr k) = rw append_assoc at (rec k)
-
-  steps-length : (a : A) (l : List A) → length (steps a l) ≡ length l
-  steps-length a [] = refl
-  steps-length a (b ∷ l) = ap suc (steps-length b l)
-
-  pub edges-length : (ring : List A) → length (edges ring) ≡ length ring
-  edges-length [] = refl
-  edges-length (a ∷ rest) = steps-length a (rest ++ a ∷ []) ∙ length-append rest (a ∷ []) ∙ omega arith
-
   pub begun_rotated : (ring : List A) (i : ℕ) → Rotated ring (begun_at i ring)
   begun_rotated ring i = record { front = take i ring; back = drop i ring; was = sym (take-append-drop i ring); now = refl }
 
@@ -209,8 +188,8 @@ module _ {A G : Type 0} (S : Sums G) (w : A → A → G) where
     pub remove : (xs : List A) (p : A) (ys : List A) → around S w (xs ++ p ∷ ys) ≡ around S w (last_of p (ys ++ xs) ∷ p ∷ first_of p (ys ++ xs) ∷ []) ⊕ around S w (xs ++ ys)
     remove xs p ys = around_rotated (swapped xs (p ∷ ys)) ∙ remove_first p (ys ++ xs) ∙ ap (λ (z : G). around S w (last_of p (ys ++ xs) ∷ p ∷ first_of p (ys ++ xs) ∷ []) ⊕ z) (around_rotated (swapped ys xs))
 
-  -- two rings joined at the edge that they share, where it and its reverse weigh nothing together
-  pub join : (s e : A) (rest_a rest_b : List A) → w s e ⊕ w e s ≡ nil → around S w ((e ∷ rest_a) ++ (s ∷ rest_b)) ≡ around S w (s ∷ e ∷ rest_a) ⊕ around S w (e ∷ s ∷ rest_b)
-  join s e rest_a rest_b back =
-      rw (edges-two e rest_a s rest_b, total_++ S weight (steps e (rest_a ++ s ∷ [])) (steps s (rest_b ++ e ∷ [])))
-      (insert S (w s e) (w e s) (total S weight (steps e (rest_a ++ s ∷ [])) ⊕ total S weight (steps s (rest_b ++ e ∷ []))) back ∙ simp (assoc, left_comm S))
+    -- two rings joined at the edge that they share
+    pub join : (s e : A) (rest_a rest_b : List A) → around S w ((e ∷ rest_a) ++ (s ∷ rest_b)) ≡ around S w (s ∷ e ∷ rest_a) ⊕ around S w (e ∷ s ∷ rest_b)
+    join s e rest_a rest_b =
+        rw (edges-two e rest_a s rest_b, total_++ S weight (steps e (rest_a ++ s ∷ [])) (steps s (rest_b ++ e ∷ [])))
+        (insert S (w s e) (w e s) (total S weight (steps e (rest_a ++ s ∷ [])) ⊕ total S weight (steps s (rest_b ++ e ∷ []))) (back s e) ∙ simp (assoc, left_comm S))

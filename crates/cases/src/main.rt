@@ -13,17 +13,9 @@ fn square() -> [f32; 8] {
     [0.0f32, 0.0, 4.0, 0.0, 4.0, 4.0, 0.0, 4.0]
 }
 
-// A merge over four points that are not marked, with room for four triangles.
+// A merge with room for four triangles.
 fn merge_few(rt: &impl Print, name: &[u8], coords: &[f32], triangles: &[u32]) -> io::Result<()> {
-    merge(
-        rt,
-        name,
-        coords,
-        &[0u32; 4],
-        triangles,
-        &mut [9u32; 12],
-        &mut [9u32; 4],
-    )
+    merge(rt, name, coords, triangles, &mut [9u32; 12], &mut [9u32; 4])
 }
 
 // K1 to K6: P, the arrow Q, a triangle, P backwards.
@@ -202,33 +194,8 @@ fn triangle_lists(rt: &impl Print) -> io::Result<()> {
 // At 510 and 511 triangles.
 fn lists_of_many(rt: &impl Print) -> io::Result<()> {
     let p = square();
-    let none = [0u32; 4];
-    merge_large(rt, b"510 triangles of one point", &p, &none, &[0u32; 1530])?;
-    merge_large(rt, b"511 triangles", &p, &none, &[0u32; 1533])
-}
-
-// P cut and merged, with marks.
-fn merge_marked(rt: &impl Print, name: &[u8], marks: &[u32]) -> io::Result<()> {
-    let triangles = [2u32, 3, 0, 2, 0, 1];
-    merge(
-        rt,
-        name,
-        &square(),
-        marks,
-        &triangles,
-        &mut [9u32; 6],
-        &mut [9u32; 2],
-    )
-}
-
-// Joints that must stay: K2 with corners marked.
-fn joints(rt: &impl Print) -> io::Result<()> {
-    merge_marked(rt, b"both ends of P's diagonal marked", &[1u32, 0, 1, 0])?;
-    merge_marked(rt, b"one end", &[1u32, 0, 0, 0])?;
-    merge_marked(rt, b"one end and the other two corners", &[0u32, 1, 1, 1])?;
-    merge_marked(rt, b"all four, by other numbers", &[256u32, 2, 65536, 7])?;
-    merge_marked(rt, b"three marks for four corners", &[0u32, 0, 0])?;
-    merge_marked(rt, b"five marks", &[0u32; 5])
+    merge_large(rt, b"510 triangles of one point", &p, &[0u32; 1530])?;
+    merge_large(rt, b"511 triangles", &p, &[0u32; 1533])
 }
 
 // Clouds: points in and on a square, equals, straight corners, and where the crate answers otherwise.
@@ -293,16 +260,6 @@ fn cover(rt: &impl Print) -> io::Result<()> {
         rt,
         b"the same, merged",
         &cover,
-        &[0u32; 12],
-        &cut_cover,
-        &mut [9u32; 30],
-        &mut [9u32; 10],
-    )?;
-    merge(
-        rt,
-        b"with a joint from corner 1 to corner 6",
-        &cover,
-        &[0u32, 1, 0, 0, 0, 0, 1, 0, 0, 0, 0, 0],
         &cut_cover,
         &mut [9u32; 30],
         &mut [9u32; 10],
@@ -338,8 +295,6 @@ fn main(rt: HostRuntime) -> io::Result<()> {
     text(&rt, b"\nTriangle lists\n")?;
     triangle_lists(&rt)?;
     lists_of_many(&rt)?;
-    text(&rt, b"\nJoints\n")?;
-    joints(&rt)?;
     many(&rt, &shapes::border(), &shapes::comb(), &shapes::spiral())?;
     largest_areas(
         &rt,

@@ -122,12 +122,11 @@ pub fn merge(
     rt: &impl Print,
     name: &[u8],
     coords: &[f32],
-    marks: &[u32],
     triangles: &[u32],
     indices: &mut [u32],
     lengths: &mut [u32],
 ) -> io::Result<()> {
-    let a = hertel_mehlhorn_idx(coords, marks, triangles, indices, lengths);
+    let a = hertel_mehlhorn_idx(coords, triangles, indices, lengths);
     begin(rt, name)?;
     if a.number != 0 {
         return refused(rt, a.number);
@@ -142,12 +141,11 @@ pub fn merge_large(
     rt: &impl Print,
     name: &[u8],
     coords: &[f32],
-    marks: &[u32],
     triangles: &[u32],
 ) -> io::Result<()> {
     let mut indices = zeros();
     let mut lengths = [0u32; MOST_TRIANGLES];
-    let a = hertel_mehlhorn_idx(coords, marks, triangles, &mut indices, &mut lengths);
+    let a = hertel_mehlhorn_idx(coords, triangles, &mut indices, &mut lengths);
     begin(rt, name)?;
     if a.number != 0 {
         return refused(rt, a.number);

@@ -2,7 +2,7 @@
 #![tactic(auto)]
 
 ghost use Rattle.std.specs.Prelude.{◌≡◌, ◌||◌, ◌<◌, length, replicate};
-ghost use Rattle.rules.specs.Limits.{most_points, most_coordinates, most_triangles, most_indices};
+ghost use Rattle.rules.specs.Limits.{most_coordinates, most_triangles, most_indices};
 
 // Of an outline.
 pub const MOST_POINTS: usize = 512;
@@ -36,14 +36,6 @@ pub fn threes() -> [u32; MOST_TRIANGLES]
     ensures value { result ≡ replicate most_triangles 3 }
 {
     [3u32; MOST_TRIANGLES]
-}
-
-// A mark for each of the most points, and none set.
-pub fn no_marks() -> [u32; MOST_POINTS]
-    ensures result_len { length result ≡ most_points }
-    ensures value { result ≡ replicate most_points 0 }
-{
-    [0u32; MOST_POINTS]
 }
 
 // Room for the coordinates of the most points.

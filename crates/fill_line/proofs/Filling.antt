@@ -6,7 +6,7 @@ use mathlib.Core.Bool.{false}
 use mathlib.Core.List.{List, [], ◌∷◌, ◌++◌, map, append-nil}
 use native.Mathlib.Omega.{arith}
 use lib.Dec.{eqb}
-use lib.ListN.{length, take, drop, replicate, length-append, length-map, length-replicate}
+use lib.ListN.{length, take, drop, replicate, length-append, length-map}
 use lib.Seq.{length-take-le}
 use lib.Ieee.{Float}
 use Rattle.algebra.specs.Lists.{Each, end, ◌&◌, sum}
@@ -15,7 +15,7 @@ use Rattle.algebra.specs.Rings.{Corner, ring_of}
 use Rattle.rules.specs.Limits.{most_points, most_coordinates, most_triangles, most_indices}
 use Rattle.rules.specs.Plane.{Pt}
 use Rattle.rules.specs.Grid.{points_of}
-use Rattle.rules.specs.Merge.{JoinTest, turns_allow, may_join, merge}
+use Rattle.rules.specs.Merge.{may_join, merge}
 use Rattle.rules.specs.Layout.{flatten, split, triples, over}
 use Rattle.rules.specs.Refusals.{first_refusal, off_grid, merger_checks}
 use Rattle.rules.specs.Entries.{Merging, triangles_for, merger}
@@ -27,7 +27,6 @@ use Rattle.rules.proofs.Outline.{cut-count}
 use Rattle.rules.proofs.Outlines.{Outlined}
 use Rattle.rules.proofs.Answers.{merger-number, merger-answered}
 use Rattle.rules.proofs.Accepted.{Accepted}
-use Rattle.rules.proofs.Joints.{unmarked_test}
 use Rattle.rules.proofs.Results.{triangles_are}
 use Rattle.rules.proofs.Both.{triangles_pass}
 use Rattle.rules.proofs.Plans.{Plan, plan_some, triangles_plan, areas_plan}
@@ -180,56 +179,40 @@ module _ {line out : List ℕ} {m : ℕ} {coords : List Float} {triangles : List
   abbrev given : List ℕ
   given = take (3 * m) triangles
 
-  -- a mark for each corner, and none set
-  module _ (none : List ℕ) (is_none : none ≡ replicate most_points 0) where
-    abbrev marks : List ℕ
-    marks = take (m + 2) none
+  module _ (indices lengths : List ℕ) (room : length indices ≡ most_indices) (room-for-lengths : length lengths ≡ most_triangles) where
+    -- the merger takes the cut's triangles
+    takes : (merger cs given indices lengths).number ≡ 0
+    takes =
+        let n : length (points_of cs) ≡ m + 2 = ap length cut.into.points ∙ cut.into.counted in
+        let is : given ≡ flatten (triangles_for (points_of cs)) = cut.into.triangles ∙ ap (λ (ps : List Pt). flatten (triangles_for ps)) (sym cut.into.points) in
+        let a : Accepted (points_of cs) (3 * (length corners - 2)) = subst (λ (ps : List Pt). Accepted ps (3 * (length corners - 2))) (sym cut.into.points) outline.outline in
+        let rows = triangles_pass cs (3 * (length corners - 2)) (length indices) (length lengths) outlined a (omega (arith, few)) (omega (arith, few)) in
+        merger-number cs given indices lengths ∙ subst (λ (l : List ℕ). first_refusal (merger_checks cs l (length indices) (length lengths)) ≡ 0) (sym is) rows
 
-    marks_are : marks ≡ replicate (m + 2) 0
-    marks_are = ap (take (m + 2)) is_none ∙ take-replicate 0 (m + 2) most_points (omega (arith, few))
+    merged_are : merge (may_join (points_of cs)) (triples given) ≡ areas_for corners
+    unfolding areas_for
+    merged_are =
+        let back : triples given ≡ triangles_for corners = ap triples (cut.into.triangles ∙ ap flatten (triangles_are outline.outline)) ∙ triangles-back outline.outline.triangles ∙ sym (triangles_are outline.outline) in
+        ap₂ (λ (ps : List Pt) (l : List (List ℕ)). merge (may_join ps) l) cut.into.points back
 
-    counted : length (points_of cs) ≡ m + 2
-    counted = ap length cut.into.points ∙ cut.into.counted
+    answered : merger cs given indices lengths ≡ record { number = 0; count = length (areas_for corners); indices = over (flatten (areas_for corners)) indices; lengths = over (map length (areas_for corners)) lengths }
+    answered = merger-answered cs given indices lengths takes ∙ ap (λ (l : List (List ℕ)). record { number = 0; count = length l; indices = over (flatten l) indices; lengths = over (map length l) lengths }) merged_are
 
-    mark_each : length marks ≡ length (points_of cs)
-    mark_each = ap length marks_are ∙ length-replicate (m + 2) 0 ∙ sym counted
+    -- of what the merger promises
+    module _ {r : Answer} {indices' lengths' : List ℕ} (p : Promise cs given indices lengths r indices' lengths') where
+      pub areas_count : r.count ≡ length (areas_for corners)
+      areas_count = p.count ∙ ap (λ (w : Merging). w.count) answered
 
-    none_set : Each (λ k. k ≡ 0) marks
-    none_set = subst (Each (λ k. k ≡ 0)) (sym marks_are) (each-replicate 0 (m + 2) refl)
+      pub areas_few : r.count ≤ most_triangles
+      areas_few = omega (arith, areas_count, few-pieces areas_kept.three, areas_kept.size, outline.outline.at_most)
 
-    module _ (indices lengths : List ℕ) (room : length indices ≡ most_indices) (room-for-lengths : length lengths ≡ most_triangles) where
-      -- the merger takes the cut's triangles
-      takes : (merger cs marks given indices lengths).number ≡ 0
-      takes =
-          let is : given ≡ flatten (triangles_for (points_of cs)) = cut.into.triangles ∙ ap (λ (ps : List Pt). flatten (triangles_for ps)) (sym cut.into.points) in
-          let a : Accepted (points_of cs) (3 * (length corners - 2)) = subst (λ (ps : List Pt). Accepted ps (3 * (length corners - 2))) (sym cut.into.points) outline.outline in
-          let rows = triangles_pass cs (length marks) (3 * (length corners - 2)) (length indices) (length lengths) outlined mark_each a (omega (arith, counted, few)) (omega (arith, counted, few)) in
-          merger-number cs marks given indices lengths ∙ subst (λ (l : List ℕ). first_refusal (merger_checks cs (length marks) l (length indices) (length lengths)) ≡ 0) (sym is) rows
-
-      merged_are : merge (may_join (points_of cs) marks) (triples given) ≡ areas_for corners
-      unfolding areas_for
-      merged_are =
-          let back : triples given ≡ triangles_for corners = ap triples (cut.into.triangles ∙ ap flatten (triangles_are outline.outline)) ∙ triangles-back outline.outline.triangles ∙ sym (triangles_are outline.outline) in
-          ap (λ (may : JoinTest). merge may (triples given)) (unmarked_test (points_of cs) none_set) ∙ ap₂ (λ (ps : List Pt) (l : List (List ℕ)). merge (turns_allow ps) l) cut.into.points back
-
-      answered : merger cs marks given indices lengths ≡ record { number = 0; count = length (areas_for corners); indices = over (flatten (areas_for corners)) indices; lengths = over (map length (areas_for corners)) lengths }
-      answered = merger-answered cs marks given indices lengths takes ∙ ap (λ (l : List (List ℕ)). record { number = 0; count = length l; indices = over (flatten l) indices; lengths = over (map length l) lengths }) merged_are
-
-      -- of what the merger promises
-      module _ {r : Answer} {indices' lengths' : List ℕ} (p : Promise cs marks given indices lengths r indices' lengths') where
-        pub areas_count : r.count ≡ length (areas_for corners)
-        areas_count = p.count ∙ ap (λ (w : Merging). w.count) answered
-
-        pub areas_few : r.count ≤ most_triangles
-        areas_few = omega (arith, areas_count, few-pieces areas_kept.three, areas_kept.size, outline.outline.at_most)
-
-        pub areas_stand : (n : ℕ) → n ≡ r.count → indices ≡ replicate most_indices 0 → Stands cs (areas_for corners) indices' (take n lengths')
-        areas_stand n count zeros =
-            let is : indices' ≡ flatten (areas_for corners) ++ drop (length (flatten (areas_for corners))) indices = p.indices_are ∙ ap (λ (w : Merging). w.indices) answered in
-            let ls : take n lengths' ≡ map length (areas_for corners)
-            = ap₂ take (count ∙ areas_count ∙ sym (length-map (areas_for corners) length)) (p.lengths_are ∙ ap (λ (w : Merging). w.lengths) answered) ∙ take-over (map length (areas_for corners)) lengths in
-            let below : Each (λ i. i < length corners) (drop (length (flatten (areas_for corners))) indices)
-            = each-drop (length (flatten (areas_for corners))) indices (subst (Each (λ i. i < length corners)) (sym zeros) (each-replicate 0 most_indices (omega (arith, outline.outline.three)))) in
-            subst (λ (l : List ℕ). Stands cs (areas_for corners) l (take n lengths')) (sym is)
-            (subst (Stands cs (areas_for corners) (flatten (areas_for corners) ++ drop (length (flatten (areas_for corners))) indices)) (sym ls)
-            (stand cs corners (areas_for corners) _ cut.into.points cut.into.on_grid outline.outline.three areas_kept below))
+      pub areas_stand : (n : ℕ) → n ≡ r.count → indices ≡ replicate most_indices 0 → Stands cs (areas_for corners) indices' (take n lengths')
+      areas_stand n count zeros =
+          let is : indices' ≡ flatten (areas_for corners) ++ drop (length (flatten (areas_for corners))) indices = p.indices_are ∙ ap (λ (w : Merging). w.indices) answered in
+          let ls : take n lengths' ≡ map length (areas_for corners)
+          = ap₂ take (count ∙ areas_count ∙ sym (length-map (areas_for corners) length)) (p.lengths_are ∙ ap (λ (w : Merging). w.lengths) answered) ∙ take-over (map length (areas_for corners)) lengths in
+          let below : Each (λ i. i < length corners) (drop (length (flatten (areas_for corners))) indices)
+          = each-drop (length (flatten (areas_for corners))) indices (subst (Each (λ i. i < length corners)) (sym zeros) (each-replicate 0 most_indices (omega (arith, outline.outline.three)))) in
+          subst (λ (l : List ℕ). Stands cs (areas_for corners) l (take n lengths')) (sym is)
+          (subst (Stands cs (areas_for corners) (flatten (areas_for corners) ++ drop (length (flatten (areas_for corners))) indices)) (sym ls)
+          (stand cs corners (areas_for corners) _ cut.into.points cut.into.on_grid outline.outline.three areas_kept below))

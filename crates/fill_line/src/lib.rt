@@ -9,7 +9,7 @@ ghost use Rattle.wkt.specs.Promise.{writing_of};
 ghost use Rattle.fill_line.specs.CutLine.{lent_for, CutLine};
 
 use ear_clipping::triangulate_ear_clipping;
-use entries::{Answer, MOST_INDICES, MOST_TRIANGLES, no_floats, no_marks, threes, wide, zeros};
+use entries::{Answer, MOST_INDICES, MOST_TRIANGLES, no_floats, threes, wide, zeros};
 use hertel_mehlhorn::hertel_mehlhorn_idx;
 use wkt::read::read_polygon;
 use wkt::write::write_multipolygon;
@@ -77,8 +77,8 @@ pub fn fill_triangles(line: &[u8], out: &mut [u8]) -> Answer
     }
 }
 
-// Fills the outline of a POLYGON line with convex areas, written as a MULTIPOLYGON line: the crews' plan. A line marks no corner. What the
-// cutter has written is never refused by the merger.
+// Fills the outline of a POLYGON line with convex areas, written as a MULTIPOLYGON line: the crews' plan. What the cutter has written is
+// never refused by the merger.
 pub fn fill_areas(line: &[u8], out: &mut [u8]) -> Answer
     ensures fills { Fills areas_for line.now out.old (writing_of result out.new) }
     ensures count_in_bounds { result.count ≤ length out.old }
@@ -91,12 +91,10 @@ pub fn fill_areas(line: &[u8], out: &mut [u8]) -> Answer
         return Answer { number, count: 0 };
     }
     let m = wide(cut.count);
-    let marks = no_marks();
     let mut indices = zeros();
     let mut lengths = threes();
     let merged = hertel_mehlhorn_idx(
         &coords[..2 * m + 4],
-        &marks[..m + 2],
         &triangles[..3 * m],
         &mut indices,
         &mut lengths,

@@ -8,14 +8,14 @@ use lib.Dec.{ltb}
 use lib.ListN.{length, take, drop, length-map, length-append, length-drop}
 use lib.Seq.{length-take-le, take-append_seam}
 use lib.Ieee.{Float}
-use Rattle.rules.specs.Limits.{most_indices}
+use Rattle.rules.specs.Limits.{most_points, most_indices}
 use Rattle.rules.specs.Grid.{points_of}
 use Rattle.rules.specs.Merge.{may_join, merge}
 use Rattle.rules.specs.Layout.{flatten, split, triples, over}
-use Rattle.rules.specs.Refusals.{first_refusal, marked_count_checks, before_triangles, merger_checks}
+use Rattle.rules.specs.Refusals.{first_refusal, count_checks, before_triangles, merger_checks}
 use Rattle.rules.specs.Entries.{Merging, merger, written_pieces}
 use Rattle.rules.proofs.Rows.{front_gives, front_none, others_decide}
-use Rattle.rules.proofs.Fronts.{marked-count-front, list_front, triangles-front}
+use Rattle.rules.proofs.Fronts.{count-front, list_front, triangles-front}
 use Rattle.rules.proofs.Layouts.{length_over}
 use Rattle.rules.proofs.Answers.{merger-number, merger-answered, merger_none, merger-written}
 use Rattle.rules.proofs.Accepted.{whole_list, in_range}
@@ -29,16 +29,16 @@ use Rattle.hasplight.proofs.Sizes.{merged_corners, merged_count}
 
 -- ---- what is reported, by the number of the refusal
 
-module _ (cs : List Float) (marks tri : List ℕ) where
+module _ (cs : List Float) (tri : List ℕ) where
   abbrev pieces : List (List ℕ)
-  pieces = merge (may_join (points_of cs) marks) (triples tri)
+  pieces = merge (may_join (points_of cs)) (triples tri)
 
   reported : ℕ → List (List ℕ)
   reported zero = pieces
   reported (suc n) = []
 
   abbrev number : List ℕ → List ℕ → ℕ
-  number out lens = first_refusal (merger_checks cs (length marks) tri (length out) (length lens))
+  number out lens = first_refusal (merger_checks cs tri (length out) (length lens))
 
   -- everything that comes back, by the pieces
   record Says (r : Merging) (n : ℕ) (out lens : List ℕ) : Type 0 where
@@ -48,30 +48,30 @@ module _ (cs : List Float) (marks tri : List ℕ) where
     pub the_lengths : r.lengths ≡ over (map length (reported n)) lens
     pub the_pieces : written_pieces r ≡ reported n
 
-  says : (n : ℕ) (out lens : List ℕ) → number out lens ≡ n → Says (merger cs marks tri out lens) n out lens
+  says : (n : ℕ) (out lens : List ℕ) → number out lens ≡ n → Says (merger cs tri out lens) n out lens
   unfolding reported flatten split
   says zero out lens e =
-      let ok = merger-number cs marks tri out lens ∙ e in
-      let is = merger-answered cs marks tri out lens ok in
+      let ok = merger-number cs tri out lens ∙ e in
+      let is = merger-answered cs tri out lens ok in
       record {
         the_number = ok;
         the_count = ap (λ (r : Merging). r.count) is;
         the_indices = ap (λ (r : Merging). r.indices) is;
         the_lengths = ap (λ (r : Merging). r.lengths) is;
-        the_pieces = merger-written cs marks tri out lens ok;
+        the_pieces = merger-written cs tri out lens ok;
       }
   says (suc n) out lens e =
-      let is = merger-number cs marks tri out lens ∙ e in
-      let none = merger_none cs marks tri out lens (λ z. absurd (omega (arith, is))) in
+      let is = merger-number cs tri out lens ∙ e in
+      let none = merger_none cs tri out lens (λ z. absurd (omega (arith, is))) in
       record {
         the_number = is;
         the_count = none.0;
         the_indices = none.1;
         the_lengths = none.2;
-        the_pieces = ap (λ (n : ℕ). split (take n (merger cs marks tri out lens).lengths) (merger cs marks tri out lens).indices) none.0;
+        the_pieces = ap (λ (n : ℕ). split (take n (merger cs tri out lens).lengths) (merger cs tri out lens).indices) none.0;
       }
 
-  merger_says : (out lens : List ℕ) → Says (merger cs marks tri out lens) (number out lens) out lens
+  merger_says : (out lens : List ℕ) → Says (merger cs tri out lens) (number out lens) out lens
   merger_says out lens = says (number out lens) out lens refl
 
   -- it fits, and its size
@@ -80,12 +80,12 @@ module _ (cs : List Float) (marks tri : List ℕ) where
     pub fits : length (flatten (reported n)) ≤ room
     pub fits_lengths : length (reported n) ≤ places
 
-  fitting : (n room places : ℕ) → first_refusal (merger_checks cs (length marks) tri room places) ≡ n → Fits n room places
+  fitting : (n room places : ℕ) → first_refusal (merger_checks cs tri room places) ≡ n → Fits n room places
   unfolding reported flatten
   fitting zero room places e =
-      let g = in_range cs (length marks) tri room places e in
-      let k = merged_corners (may_join (points_of cs) marks) tri in
-      let m = merged_count (may_join (points_of cs) marks) tri in
+      let g = in_range cs tri room places e in
+      let k = merged_corners (may_join (points_of cs)) tri in
+      let m = merged_count (may_join (points_of cs)) tri in
       record { corners_are = k; fits = omega (arith, k, m, g.fits, g.whole); fits_lengths = omega (arith, m, g.fits_lengths) }
   fitting (suc n) room places e = record { corners_are = refl; fits = omega arith; fits_lengths = omega arith }
 
@@ -106,15 +106,15 @@ corners_some (suc n) t count h = absurd (omega arith)
 
 -- ---- the promise over the bytes
 
-module _ (cs : List Float) (marks tri indices lengths : List ℕ) where
+module _ (cs : List Float) (tri indices lengths : List ℕ) where
   abbrev given_number : ℕ
-  given_number = number cs marks tri (words_of indices) (words_of lengths)
+  given_number = number cs tri (words_of indices) (words_of lengths)
 
   -- the promise, by the pieces
-  kept : (a : Answer) (indices' lengths' : List ℕ) → a.number ≡ given_number → a.count ≡ length (reported cs marks tri given_number) → indices' ≡ over (bytes_of (flatten (reported cs marks tri given_number))) indices
-      → lengths' ≡ over (bytes_of (map length (reported cs marks tri given_number))) lengths → MergerGives cs marks tri indices lengths a indices' lengths'
+  kept : (a : Answer) (indices' lengths' : List ℕ) → a.number ≡ given_number → a.count ≡ length (reported cs tri given_number) → indices' ≡ over (bytes_of (flatten (reported cs tri given_number))) indices
+      → lengths' ≡ over (bytes_of (map length (reported cs tri given_number))) lengths → MergerGives cs tri indices lengths a indices' lengths'
   kept a indices' lengths' e f g h =
-      let s = merger_says cs marks tri (words_of indices) (words_of lengths) in
+      let s = merger_says cs tri (words_of indices) (words_of lengths) in
       record {
         number = e ∙ sym s.the_number;
         count = f ∙ sym s.the_count;
@@ -122,49 +122,49 @@ module _ (cs : List Float) (marks tri indices lengths : List ℕ) where
         length-bytes = h ∙ ap (λ (ps : List (List ℕ)). over (bytes_of (map length ps)) lengths) (sym s.the_pieces);
       }
 
-  none_reported : (n : ℕ) → n ≢ 0 → reported cs marks tri n ≡ []
+  none_reported : (n : ℕ) → n ≢ 0 → reported cs tri n ≡ []
   unfolding reported
   none_reported zero d = absurd (d refl)
   none_reported (suc n) d = refl
 
-  refused : (n : ℕ) → n ≡ given_number → n ≢ 0 → MergerGives cs marks tri indices lengths (record { number = n; count = 0 }) indices lengths
+  refused : (n : ℕ) → n ≡ given_number → n ≢ 0 → MergerGives cs tri indices lengths (record { number = n; count = 0 }) indices lengths
   unfolding flatten bytes_of
   refused n e d =
-      let none : reported cs marks tri given_number ≡ [] = ap (reported cs marks tri) (sym e) ∙ none_reported n d in
+      let none : reported cs tri given_number ≡ [] = ap (reported cs tri) (sym e) ∙ none_reported n d in
       kept (record { number = n; count = 0 }) indices lengths e (sym (ap length none)) (sym (ap (λ (ps : List (List ℕ)). over (bytes_of (flatten ps)) indices) none)) (sym (ap (λ (ps : List (List ℕ)). over (bytes_of (map length ps)) lengths) none))
 
-  before_triangles_lem : {n : ℕ} → n ≡ first_refusal (before_triangles cs (length marks) (length tri)) → n ≢ 0 → MergerGives cs marks tri indices lengths (record { number = n; count = 0 }) indices lengths
-  before_triangles_lem {n} e d = refused n (front_gives (triangles-front cs (length marks) tri (length (words_of indices)) (length (words_of lengths))) e d) d
+  before_triangles_lem : {n : ℕ} → n ≡ first_refusal (before_triangles cs (length tri)) → n ≢ 0 → MergerGives cs tri indices lengths (record { number = n; count = 0 }) indices lengths
+  before_triangles_lem {n} e d = refused n (front_gives (triangles-front cs tri (length (words_of indices)) (length (words_of lengths))) e d) d
 
-  -- what the numbers of coordinates and of marks decide
-  pub refused_count : (n : ℕ) → n ≡ first_refusal (marked_count_checks (length cs) (length marks)) → n ≢ 0 → MergerGives cs marks tri indices lengths (record { number = n; count = 0 }) indices lengths
-  refused_count n e d = before_triangles_lem (front_gives (list_front cs (length marks) (length tri)) (front_gives (marked-count-front cs (length marks)) e d) d) d
+  -- what the number of coordinates decides
+  pub refused_count : (n : ℕ) → n ≡ first_refusal (count_checks 0 most_points (length cs)) → n ≢ 0 → MergerGives cs tri indices lengths (record { number = n; count = 0 }) indices lengths
+  refused_count n e d = before_triangles_lem (front_gives (list_front cs (length tri)) (front_gives (count-front 0 most_points cs) e d) d) d
 
   -- more indices than the most triangles have
   pub refused_long :
-      (fs : List Float) (k t n : ℕ) → fs ≡ cs → k ≡ length marks → t ≡ length tri → most_indices < t → n ≡ first_refusal (before_triangles fs k t)
-      → MergerGives cs marks tri indices lengths (record { number = n; count = 0 }) indices lengths
-  refused_long fs k t n same each m long e =
-      let is : n ≡ first_refusal (before_triangles cs (length marks) (length tri)) = rw (m, each, same) at e in
+      (fs : List Float) (t n : ℕ) → fs ≡ cs → t ≡ length tri → most_indices < t → n ≡ first_refusal (before_triangles fs t)
+      → MergerGives cs tri indices lengths (record { number = n; count = 0 }) indices lengths
+  refused_long fs t n same m long e =
+      let is : n ≡ first_refusal (before_triangles cs (length tri)) = rw (m, same) at e in
       before_triangles_lem is (λ z. too_long (sym is ∙ z))
     where
-      too_long : first_refusal (before_triangles cs (length marks) (length tri)) ≡ 0 → ⊥
+      too_long : first_refusal (before_triangles cs (length tri)) ≡ 0 → ⊥
       too_long z =
-          let first = front_none (list_front cs (length marks) (length tri)) z in
-          let l = whole_list (length tri) (sym (others_decide (list_front cs (length marks) (length tri)) first) ∙ z) in
+          let first = front_none (list_front cs (length tri)) z in
+          let l = whole_list (length tri) (sym (others_decide (list_front cs (length tri)) first) ∙ z) in
           omega (arith, l.0, l.1, m, long)
 
 -- the merger is lent the first words of two rooms of the most indices
-pub record Lent (cs : List Float) (marks tri indices lengths out sizes : List ℕ) (room places : ℕ) (a : Answer) (after after-lengths : List ℕ) : Type 0 where
+pub record Lent (cs : List Float) (tri indices lengths out sizes : List ℕ) (room places : ℕ) (a : Answer) (after after-lengths : List ℕ) : Type 0 where
   pub few : length tri ≤ most_indices
   pub room_is : room ≡ least_of (length indices / 4)
   pub places_is : places ≡ least_of (length lengths / 4)
   pub out_size : length out ≡ most_indices
   pub sizes_size : length sizes ≡ most_indices
-  pub promise : Promise cs marks tri (take room out) (take places sizes) a after after-lengths
+  pub promise : Promise cs tri (take room out) (take places sizes) a after after-lengths
 
-module _ {cs : List Float} {marks tri indices lengths out sizes : List ℕ} {room places : ℕ} {a : Answer} {after after-lengths : List ℕ}
-    (l : Lent cs marks tri indices lengths out sizes room places a after after-lengths) where
+module _ {cs : List Float} {tri indices lengths out sizes : List ℕ} {room places : ℕ} {a : Answer} {after after-lengths : List ℕ}
+    (l : Lent cs tri indices lengths out sizes room places a after after-lengths) where
   open l use {few, room_is, places_is, out_size, sizes_size, promise}
 
   abbrev lent : List ℕ
@@ -174,10 +174,10 @@ module _ {cs : List Float} {marks tri indices lengths out sizes : List ℕ} {roo
   lent_lengths = take places sizes
 
   abbrev given : ℕ
-  given = given_number cs marks tri indices lengths
+  given = given_number cs tri indices lengths
 
   abbrev R : List (List ℕ)
-  R = reported cs marks tri given
+  R = reported cs tri given
 
   lent_is : length lent ≡ room
   lent_is = length-take-le room out (omega (arith, least_below (length indices / 4)))
@@ -185,7 +185,7 @@ module _ {cs : List Float} {marks tri indices lengths out sizes : List ℕ} {roo
   places_are : length lent_lengths ≡ places
   places_are = length-take-le places sizes (omega (arith, least_below (length lengths / 4)))
 
-  same_number : number cs marks tri lent lent_lengths ≡ given
+  same_number : number cs tri lent lent_lengths ≡ given
   unfolding merger_checks
   same_number =
       let x : ltb (length lent) (length tri) ≡ ltb (length (words_of indices)) (length tri) =
@@ -194,11 +194,11 @@ module _ {cs : List Float} {marks tri indices lengths out sizes : List ℕ} {roo
       rw (places_are, places_is, words_length lengths) (least-room (length lengths / 4) (length tri / 3) (omega arith)) in
       rw (x, y)
 
-  inner : Says cs marks tri (merger cs marks tri lent lent_lengths) given lent lent_lengths
-  inner = subst (λ (n : ℕ). Says cs marks tri (merger cs marks tri lent lent_lengths) n lent lent_lengths) same_number (merger_says cs marks tri lent lent_lengths)
+  inner : Says cs tri (merger cs tri lent lent_lengths) given lent lent_lengths
+  inner = subst (λ (n : ℕ). Says cs tri (merger cs tri lent lent_lengths) n lent lent_lengths) same_number (merger_says cs tri lent lent_lengths)
 
-  fit : Fits cs marks tri given (length lent) (length lent_lengths)
-  fit = fitting cs marks tri given (length lent) (length lent_lengths) same_number
+  fit : Fits cs tri given (length lent) (length lent_lengths)
+  fit = fitting cs tri given (length lent) (length lent_lengths) same_number
 
   number_is : a.number ≡ given
   number_is = promise.number ∙ inner.the_number
@@ -235,14 +235,14 @@ module _ {cs : List Float} {marks tri indices lengths out sizes : List ℕ} {roo
 
   pub merge_kept :
       (k n : ℕ) {indices' lengths' : List ℕ} → k ≡ corners_of a.number (length tri) a.count → n ≡ a.count → indices' ≡ over (bytes_of (take k (after ++ drop room out))) indices
-      → lengths' ≡ over (bytes_of (take n (after-lengths ++ drop places sizes))) lengths → MergerGives cs marks tri indices lengths a indices' lengths'
+      → lengths' ≡ over (bytes_of (take n (after-lengths ++ drop places sizes))) lengths → MergerGives cs tri indices lengths a indices' lengths'
   merge_kept k n e f b d =
       let front : take k (after ++ drop room out) ≡ flatten R = rw (corners_kept k e, after_is) (front-back (flatten R) lent (drop room out)) in
       let lens : take n (after-lengths ++ drop places sizes) ≡ map length R =
       rw (f ∙ count_is ∙ sym (length-map R length), lengths_are) (front-back (map length R) lent_lengths (drop places sizes)) in
-      kept cs marks tri indices lengths a _ _ number_is count_is (b ∙ ap (λ (ws : List ℕ). over (bytes_of ws) indices) front) (d ∙ ap (λ (ws : List ℕ). over (bytes_of ws) lengths) lens)
+      kept cs tri indices lengths a _ _ number_is count_is (b ∙ ap (λ (ws : List ℕ). over (bytes_of ws) indices) front) (d ∙ ap (λ (ws : List ℕ). over (bytes_of ws) lengths) lens)
 
 pub merge_read :
-    (cs fs : List Float) (marks ms tri ws indices lengths : List ℕ) (r : Answer) (indices' lengths' : List ℕ) → fs ≡ cs → ms ≡ marks → ws ≡ tri → MergerGives fs ms ws indices lengths r indices' lengths'
-    → MergerGives cs marks tri indices lengths r indices' lengths'
-merge_read cs fs marks ms tri ws indices lengths r indices' lengths' e d f g = rw (e, d, f) at g
+    (cs fs : List Float) (tri ws indices lengths : List ℕ) (r : Answer) (indices' lengths' : List ℕ) → fs ≡ cs → ws ≡ tri → MergerGives fs ws indices lengths r indices' lengths'
+    → MergerGives cs tri indices lengths r indices' lengths'
+merge_read cs fs tri ws indices lengths r indices' lengths' e f g = rw (e, f) at g

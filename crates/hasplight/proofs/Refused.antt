@@ -63,15 +63,15 @@ module _ (coords indices : List ℕ) (r : Answer) (indices' : List ℕ) where
 
 -- ---- the merger
 
-module _ (coords marks triangles indices lengths : List ℕ) (r : Answer) (indices' lengths' : List ℕ) (p : MergerPromise coords marks triangles indices lengths r indices' lengths') where
+module _ (coords triangles indices lengths : List ℕ) (r : Answer) (indices' lengths' : List ℕ) (p : MergerPromise coords triangles indices lengths r indices' lengths') where
   abbrev pieces : List (List ℕ)
-  pieces = written_pieces (merger (floats_of coords) (words_of marks) (words_of triangles) (words_of indices) (words_of lengths))
+  pieces = written_pieces (merger (floats_of coords) (words_of triangles) (words_of indices) (words_of lengths))
 
   pub merger_refused : r.number ≢ 0 → (r.count ≡ 0) × (indices' ≡ indices) × (lengths' ≡ lengths)
   unfolding flatten split
   merger_refused d =
-      let m = merger (floats_of coords) (words_of marks) (words_of triangles) (words_of indices) (words_of lengths) in
-      let none = (merger_none (floats_of coords) (words_of marks) (words_of triangles) (words_of indices) (words_of lengths) (λ e. d (p.number ∙ e))).0 in
+      let m = merger (floats_of coords) (words_of triangles) (words_of indices) (words_of lengths) in
+      let none = (merger_none (floats_of coords) (words_of triangles) (words_of indices) (words_of lengths) (λ e. d (p.number ∙ e))).0 in
       let no_pieces : pieces ≡ [] = ap (λ (n : ℕ). split (take n m.lengths) m.indices) none in
       (p.count ∙ none, nothing (flatten pieces) indices indices' p.bytes (ap flatten no_pieces), nothing (map length pieces) lengths lengths' p.length-bytes (ap (map length) no_pieces))
 

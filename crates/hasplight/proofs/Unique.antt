@@ -18,9 +18,9 @@ reported_unique number count report indices r s indices₁ indices₂ p q =
     (answers_equal r s (p.number_is ∙ sym q.number_is) (p.count_is ∙ sym q.count_is), p.bytes ∙ sym q.bytes)
 
 pub merger_unique :
-    (coords marks triangles indices lengths : List ℕ) (r s : Answer) (indices₁ lengths₁ indices₂ lengths₂ : List ℕ) → MergerPromise coords marks triangles indices lengths r indices₁ lengths₁
-    → MergerPromise coords marks triangles indices lengths s indices₂ lengths₂ → (r ≡ s) × (indices₁ ≡ indices₂) × (lengths₁ ≡ lengths₂)
-merger_unique coords marks triangles indices lengths r s indices₁ lengths₁ indices₂ lengths₂ p q =
+    (coords triangles indices lengths : List ℕ) (r s : Answer) (indices₁ lengths₁ indices₂ lengths₂ : List ℕ) → MergerPromise coords triangles indices lengths r indices₁ lengths₁
+    → MergerPromise coords triangles indices lengths s indices₂ lengths₂ → (r ≡ s) × (indices₁ ≡ indices₂) × (lengths₁ ≡ lengths₂)
+merger_unique coords triangles indices lengths r s indices₁ lengths₁ indices₂ lengths₂ p q =
     (answers_equal r s (p.number ∙ sym q.number) (p.count ∙ sym q.count), p.bytes ∙ sym q.bytes, p.length-bytes ∙ sym q.length-bytes)
 
 pub point_unique : (test : Pt → List Pt → Position) (x y : Float) (coords : List ℕ) (r s : Verdict) → PointPromise test x y coords r → PointPromise test x y coords s → r ≡ s

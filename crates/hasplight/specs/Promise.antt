@@ -32,15 +32,15 @@ CutterGives cs indices = let c = cutter cs (words_of indices) in Reported c.numb
 abbrev pub CutterPromise : List ℕ → List ℕ → Answer → List ℕ → Type 0
 CutterPromise coords = CutterGives (floats_of coords)
 
--- what the merger gives back for these coordinates, these marks and these triangles' indices
-pub record MergerGives (cs : List Float) (marks triangles indices lengths : List ℕ) (r : Answer) (indices' lengths' : List ℕ) : Type 0 where
-  pub number : r.number ≡ (merger cs marks triangles (words_of indices) (words_of lengths)).number
-  pub count : r.count ≡ (merger cs marks triangles (words_of indices) (words_of lengths)).count
-  pub bytes : indices' ≡ over (bytes_of (flatten (written_pieces (merger cs marks triangles (words_of indices) (words_of lengths))))) indices
-  pub length-bytes : lengths' ≡ over (bytes_of (map length (written_pieces (merger cs marks triangles (words_of indices) (words_of lengths))))) lengths
+-- what the merger gives back for these coordinates and these triangles' indices
+pub record MergerGives (cs : List Float) (triangles indices lengths : List ℕ) (r : Answer) (indices' lengths' : List ℕ) : Type 0 where
+  pub number : r.number ≡ (merger cs triangles (words_of indices) (words_of lengths)).number
+  pub count : r.count ≡ (merger cs triangles (words_of indices) (words_of lengths)).count
+  pub bytes : indices' ≡ over (bytes_of (flatten (written_pieces (merger cs triangles (words_of indices) (words_of lengths))))) indices
+  pub length-bytes : lengths' ≡ over (bytes_of (map length (written_pieces (merger cs triangles (words_of indices) (words_of lengths))))) lengths
 
-abbrev pub MergerPromise : List ℕ → List ℕ → List ℕ → List ℕ → List ℕ → Answer → List ℕ → List ℕ → Type 0
-MergerPromise coords marks triangles = MergerGives (floats_of coords) (words_of marks) (words_of triangles)
+abbrev pub MergerPromise : List ℕ → List ℕ → List ℕ → List ℕ → Answer → List ℕ → List ℕ → Type 0
+MergerPromise coords triangles = MergerGives (floats_of coords) (words_of triangles)
 
 -- what a point test gives back for these coordinates
 pub record PointGives (test : Pt → List Pt → Position) (x y : Float) (cs : List Float) (r : Verdict) : Type 0 where

@@ -1,5 +1,5 @@
-// The entries on numbers and byte slices, as hasplight_c exports them. Each f32, mark, index or length stands as four bytes, low byte first;
-// bytes past the last whole four are neither read nor written.
+// The entries on numbers and byte slices, as hasplight_c exports them. Each f32, index or length stands as four bytes, low byte first; bytes
+// past the last whole four are neither read nor written.
 #![tactic(auto)]
 
 pub mod hull;
@@ -12,7 +12,7 @@ ghost use Rattle.rules.specs.Border.{position_number, position, convex_position}
 ghost use Rattle.point_in_poly2d.specs.Verdicts.{number_of, answer_of, test_of};
 ghost use Rattle.hasplight.specs.Promise.{CutterGives, CutterPromise, MergerGives, MergerPromise, PointPromise};
 
-use entries::{Answer, MOST_INDICES, MOST_POINTS, no_floats, no_marks, wide, zeros};
+use entries::{Answer, MOST_INDICES, MOST_POINTS, no_floats, wide, zeros};
 use grid::outline::count_refusal;
 use room::{corners, least, tripled};
 use words::{read_floats, read_words, write_words};
@@ -51,15 +51,9 @@ pub fn hasplight_triangulate_ear_clipping(coords: &[u8], indices: &mut [u8]) -> 
 }
 
 // Merges, and writes what is reported as bytes.
-fn merge(
-    floats: &[f32],
-    marks: &[u32],
-    given: &[u32],
-    indices: &mut [u8],
-    lengths: &mut [u8],
-) -> Answer
+fn merge(floats: &[f32], given: &[u32], indices: &mut [u8], lengths: &mut [u8]) -> Answer
     requires { length given.now ≤ most_indices }
-    ensures { MergerGives floats.now marks.now given.now indices.old lengths.old result indices.new lengths.new }
+    ensures { MergerGives floats.now given.now indices.old lengths.old result indices.new lengths.new }
 {
     let room = least(indices.len() / 4);
     let places = least(lengths.len() / 4);
@@ -67,7 +61,6 @@ fn merge(
     let mut sizes = zeros();
     let a = hertel_mehlhorn::hertel_mehlhorn_idx(
         floats,
-        marks,
         given,
         &mut out[..room],
         &mut sizes[..places],
@@ -79,16 +72,14 @@ fn merge(
 
 pub fn hasplight_hertel_mehlhorn_idx(
     coords: &[u8],
-    marks: &[u8],
     triangles: &[u8],
     indices: &mut [u8],
     lengths: &mut [u8],
 ) -> Answer
-    ensures { MergerPromise coords.now marks.now triangles.now indices.old lengths.old result indices.new lengths.new }
+    ensures { MergerPromise coords.now triangles.now indices.old lengths.old result indices.new lengths.new }
 {
     let n = coords.len() / 4;
-    let k = marks.len() / 4;
-    let number = hertel_mehlhorn::marked_count_refusal(n, k);
+    let number = count_refusal(0, MOST_POINTS, n);
     if number != 0 {
         return Answer { number, count: 0 };
     }
@@ -96,14 +87,12 @@ pub fn hasplight_hertel_mehlhorn_idx(
     read_floats(coords, &mut floats);
     let t = triangles.len() / 4;
     if MOST_INDICES < t {
-        let number = hertel_mehlhorn::early_refusal(&floats[..n], k, t);
+        let number = hertel_mehlhorn::early_refusal(&floats[..n], t);
         return Answer { number, count: 0 };
     }
-    let mut marked = no_marks();
-    read_words(marks, &mut marked);
     let mut given = zeros();
     read_words(triangles, &mut given);
-    merge(&floats[..n], &marked[..k], &given[..t], indices, lengths)
+    merge(&floats[..n], &given[..t], indices, lengths)
 }
 
 // A point test's verdict as two numbers.

@@ -21,14 +21,13 @@ pub extern "C" fn hasplight_triangulate_ear_clipping(coords: &[u8], indices: &mu
 #[unsafe(no_mangle)]
 pub extern "C" fn hasplight_hertel_mehlhorn_idx(
     coords: &[u8],
-    marks: &[u8],
     triangles: &[u8],
     indices: &mut [u8],
     lengths: &mut [u8],
 ) -> Answer
-    ensures { MergerPromise coords.now marks.now triangles.now indices.old lengths.old result indices.new lengths.new }
+    ensures { MergerPromise coords.now triangles.now indices.old lengths.old result indices.new lengths.new }
 {
-    hasplight::hasplight_hertel_mehlhorn_idx(coords, marks, triangles, indices, lengths)
+    hasplight::hasplight_hertel_mehlhorn_idx(coords, triangles, indices, lengths)
 }
 
 #[unsafe(no_mangle)]

@@ -15,30 +15,30 @@ use Rattle.entries.specs.declared.Answer.{Answer}
 use Rattle.entries.proofs.Answers.{answers_equal}
 use Rattle.hertel_mehlhorn.specs.Promise.{Promise, Written}
 
-module _ (cs : List Float) (marks tri out lens : List ℕ) where
+module _ (cs : List Float) (tri out lens : List ℕ) where
   abbrev pieces : List (List ℕ)
-  pieces = merge (may_join (points_of cs) marks) (triples tri)
+  pieces = merge (may_join (points_of cs)) (triples tri)
 
-  promised : (r : Answer) (out' lens' : List ℕ) → merger cs marks tri out lens ≡ record { number = r.number; count = r.count; indices = out'; lengths = lens' } → Promise cs marks tri out lens r out' lens'
+  promised : (r : Answer) (out' lens' : List ℕ) → merger cs tri out lens ≡ record { number = r.number; count = r.count; indices = out'; lengths = lens' } → Promise cs tri out lens r out' lens'
   promised r out' lens' e = record { number = rw e; count = rw e; indices_are = rw e; lengths_are = rw e }
 
-  module _ (n : ℕ) (is : n ≡ first_refusal (merger_checks cs (length marks) tri (length out) (length lens))) where
-    number_is : (merger cs marks tri out lens).number ≡ n
-    number_is = merger-number cs marks tri out lens ∙ sym is
+  module _ (n : ℕ) (is : n ≡ first_refusal (merger_checks cs tri (length out) (length lens))) where
+    number_is : (merger cs tri out lens).number ≡ n
+    number_is = merger-number cs tri out lens ∙ sym is
 
-    pub refused : n ≢ 0 → Promise cs marks tri out lens (record { number = n; count = 0 }) out lens
+    pub refused : n ≢ 0 → Promise cs tri out lens (record { number = n; count = 0 }) out lens
     refused d =
         promised (record { number = n; count = 0 }) out lens
-        (merger_refused cs marks tri out lens (λ e. d (sym number_is ∙ e)) ∙ ap (λ m. record { number = m; count = 0; indices = out; lengths = lens }) number_is)
+        (merger_refused cs tri out lens (λ e. d (sym number_is ∙ e)) ∙ ap (λ m. record { number = m; count = 0; indices = out; lengths = lens }) number_is)
 
-    pub merged : n ≡ 0 → (count : ℕ) (out' lens' : List ℕ) → Written pieces out lens count out' lens' → Promise cs marks tri out lens (record { number = 0; count = count }) out' lens'
+    pub merged : n ≡ 0 → (count : ℕ) (out' lens' : List ℕ) → Written pieces out lens count out' lens' → Promise cs tri out lens (record { number = 0; count = count }) out' lens'
     merged e count out' lens' w =
-        rw (w.count, w.indices_are, w.lengths_are) (promised (record { number = 0; count = length pieces }) (over (flatten pieces) out) (over (map length pieces) lens) (merger-answered cs marks tri out lens (number_is ∙ e)))
+        rw (w.count, w.indices_are, w.lengths_are) (promised (record { number = 0; count = length pieces }) (over (flatten pieces) out) (over (map length pieces) lens) (merger-answered cs tri out lens (number_is ∙ e)))
 
 -- ---- two results that the promise allows are equal
 
 pub unique :
-    (cs : List Float) (marks tri out lens : List ℕ) (r s : Answer) (out₁ lens₁ out₂ lens₂ : List ℕ) → Promise cs marks tri out lens r out₁ lens₁ → Promise cs marks tri out lens s out₂ lens₂
+    (cs : List Float) (tri out lens : List ℕ) (r s : Answer) (out₁ lens₁ out₂ lens₂ : List ℕ) → Promise cs tri out lens r out₁ lens₁ → Promise cs tri out lens s out₂ lens₂
     → (r ≡ s) × (out₁ ≡ out₂) × (lens₁ ≡ lens₂)
-unique cs marks tri out lens r s out₁ lens₁ out₂ lens₂ p q =
+unique cs tri out lens r s out₁ lens₁ out₂ lens₂ p q =
     (answers_equal r s (p.number ∙ sym q.number) (p.count ∙ sym q.count), p.indices_are ∙ sym q.indices_are, p.lengths_are ∙ sym q.lengths_are)

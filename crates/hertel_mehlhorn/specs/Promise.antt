@@ -4,12 +4,12 @@ use Rattle.rules.specs.Layout.{flatten, over}
 use Rattle.rules.specs.Entries.{merger}
 use Rattle.entries.specs.declared.Answer.{Answer}
 
--- of the coordinates, the marks, the given triangles, and the two lent slices before and after
-pub record Promise (coords : List Float) (marks triangles indices lengths : List ℕ) (r : Answer) (indices' lengths' : List ℕ) : Type 0 where
-  pub number : r.number ≡ (merger coords marks triangles indices lengths).number
-  pub count : r.count ≡ (merger coords marks triangles indices lengths).count
-  pub indices_are : indices' ≡ (merger coords marks triangles indices lengths).indices
-  pub lengths_are : lengths' ≡ (merger coords marks triangles indices lengths).lengths
+-- of the coordinates, the given triangles, and the two lent slices before and after
+pub record Promise (coords : List Float) (triangles indices lengths : List ℕ) (r : Answer) (indices' lengths' : List ℕ) : Type 0 where
+  pub number : r.number ≡ (merger coords triangles indices lengths).number
+  pub count : r.count ≡ (merger coords triangles indices lengths).count
+  pub indices_are : indices' ≡ (merger coords triangles indices lengths).indices
+  pub lengths_are : lengths' ≡ (merger coords triangles indices lengths).lengths
 
 -- pieces are written, and their number is answered
 pub record Written (pieces : List (List ℕ)) (indices lengths : List ℕ) (n : ℕ) (indices' lengths' : List ℕ) : Type 0 where

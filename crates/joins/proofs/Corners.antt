@@ -1,16 +1,13 @@
 -- What a look at a place reads and finds.
 use Prim.Native.Nat.{ℕ, ◌<◌}
 use mathlib.Core.Path.{◌≡◌, sym, ◌∙◌, ap}
-use mathlib.Core.Logic.{◌≢◌}
 use mathlib.Core.Bool.{Bool, true, false, not}
 use mathlib.Core.List.{List}
-use lib.Dec.{eqb}
 use lib.ListN.{get_or}
-use borrow.Author.Tests.{ne_eqb}
 use Rattle.algebra.specs.Lists.{Each}
 use Rattle.algebra.proofs.Lists.{each_head}
 use Rattle.rules.specs.Plane.{Pt, turn, point, turns_right}
-use Rattle.rules.specs.Merge.{JoinTest, turns_allow, bolted, may_join}
+use Rattle.rules.specs.Merge.{JoinTest, may_join}
 use Rattle.rules.specs.MergeQueue.{joint_at_start, joint_at_end}
 use Rattle.rules.proofs.QueueMates.{mate-each}
 use Rattle.grid.specs.declared.point_in_triangle.Orientation.{Orientation}
@@ -29,35 +26,14 @@ pub turn_is :
     → (t : Bool) → t ≡ is_cw d → t ≡ turns_right ps a b c
 turn_is ps a b c p q r ep eq er d is t e = e ∙ ap is_cw is ∙ cw_right (turn p q r) ∙ rw (ep, eq, er)
 
--- ---- marks
-
-module _ (marks : List ℕ) (s e : ℕ) where
-  pub start_unmarked : get_or marks s 0 ≡ 0 → false ≡ bolted marks s e
-  unfolding bolted
-  start_unmarked h = rw h
-
-  pub end_decides : get_or marks s 0 ≢ 0 → not (eqb (get_or marks e 0) 0) ≡ bolted marks s e
-  unfolding bolted
-  end_decides h = rw (ne_eqb (get_or marks s 0) 0 h)
-
--- ---- and then turns
-
-module _ (ps : List Pt) (marks : List ℕ) (before s t e after : ℕ) (m : Bool) (is_m : m ≡ bolted marks s e) where
-  abbrev may : Bool
-  may = may_join ps marks (corner_of before s t) (corner_of t e after)
-
-  pub must_stay : m ≡ true → false ≡ may
+module _ (ps : List Pt) (before s t e after : ℕ) where
+  pub first-bent : (r : Bool) → r ≡ turns_right ps before s t → r ≡ true → false ≡ may_join ps (corner_of before s t) (corner_of t e after)
   unfolding may_join
-  must_stay k = rw (sym is_m ∙ k)
+  first-bent r is h = rw (sym is ∙ h)
 
-  module _ (free : m ≡ false) (r : Bool) (is : r ≡ turns_right ps before s t) where
-    pub first-bent : r ≡ true → false ≡ may
-    unfolding may_join turns_allow
-    first-bent h = rw (sym is_m ∙ free, sym is ∙ h)
-
-    pub second-asked : r ≡ false → (q : Bool) → q ≡ turns_right ps t e after → not q ≡ may
-    unfolding may_join turns_allow
-    second-asked h q is' = rw (sym is_m ∙ free, sym is ∙ h, is')
+  pub second-asked : (r : Bool) → r ≡ turns_right ps before s t → r ≡ false → (q : Bool) → q ≡ turns_right ps t e after → not q ≡ may_join ps (corner_of before s t) (corner_of t e after)
+  unfolding may_join
+  second-asked r is h q is' = rw (sym is ∙ h, is')
 
 -- ---- what is found
 

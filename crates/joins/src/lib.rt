@@ -29,7 +29,6 @@ pub struct Grown {
 // Joins piece number a of `given` with later pieces, as long as it has a join.
 pub fn grow(
     coords: &[f32],
-    marks: &[u32],
     edges: &mut [u32; 1536],
     eights: &mut [u64; 512],
     vert: &mut [u16; 512],
@@ -39,11 +38,11 @@ pub fn grow(
     a: usize,
     given: usize,
 ) -> Grown
-    requires coords_value { (off_grid coords.now ≡ false) × (length marks.now ≡ length (points_of coords.now)) }
+    requires coords_value { off_grid coords.now ≡ false }
     requires lie { Lie edges.old eights.old a given × (a < given) }
     requires each { Each (Each (λ v. v < length (points_of coords.now))) (later edges.old a given) × (length (points_of coords.now) ≤ 512) }
     requires sized { Sized vert.old succ.old pred.old queue.old }
-    ensures { Finished (may_join (points_of coords.now) marks.now) (length (points_of coords.now)) edges.old a given
+    ensures { Finished (may_join (points_of coords.now)) (length (points_of coords.now)) edges.old a given
         edges.new eights.new vert.new succ.new pred.new queue.new result }
 {
     begin(edges, a, vert, succ, pred, queue);
@@ -57,19 +56,7 @@ pub fn grow(
     while refused < live {
         let s = place(queue[head % 1024]);
         let e = place(succ[s]);
-        match look_at(
-            coords,
-            marks,
-            edges,
-            eights,
-            vert,
-            succ,
-            pred,
-            a + 1,
-            count,
-            s,
-            e,
-        ) {
+        match look_at(coords, edges, eights, vert, succ, pred, a + 1, count, s, e) {
             Look::Lone => {
                 live -= 1;
                 head += 1;

@@ -1,9 +1,9 @@
-// A look at a place of A: whether its edge has a mate in a later piece, and whether A may be joined with it, by the marks and the turns.
+// A look at a place of A: whether its edge has a mate in a later piece, and whether A may be joined with it.
 ghost use Rattle.std.specs.Prelude.{◌≡◌, false, ◌+◌, ◌<◌, ◌≤◌, length, get_or};
 ghost use Rattle.algebra.specs.Lists.{Each};
 ghost use Rattle.rules.specs.Grid.{points_of};
 ghost use Rattle.rules.specs.Plane.{turns_right};
-ghost use Rattle.rules.specs.Merge.{bolted, may_join};
+ghost use Rattle.rules.specs.Merge.{may_join};
 ghost use Rattle.rules.specs.Refusals.{off_grid};
 ghost use Rattle.pieces.specs.Pieces.{later, Lie};
 ghost use Rattle.joins.specs.Looks.{corner_of, Readable, Looked};
@@ -32,35 +32,13 @@ fn turns_right(coords: &[f32], a: usize, b: usize, c: usize) -> bool
     corner_direction(p, q, r).is_cw()
 }
 
-// Whether both ends of the edge from s to e are marked.
-fn both_marked(marks: &[u32], s: usize, e: usize) -> bool
-    requires { (s < length marks.now) × (e < length marks.now) }
-    ensures { result ≡ bolted marks.now s e }
-{
-    if marks[s] == 0 {
-        return false;
-    }
-    marks[e] != 0
-}
-
 // Whether A and a mate may be joined, where the join makes the corners before, s, t and t, e, after.
-fn may_join(
-    coords: &[f32],
-    marks: &[u32],
-    before: usize,
-    s: usize,
-    t: usize,
-    e: usize,
-    after: usize,
-) -> bool
-    requires coords_value { (off_grid coords.now ≡ false) × (length marks.now ≡ length (points_of coords.now)) }
+fn may_join(coords: &[f32], before: usize, s: usize, t: usize, e: usize, after: usize) -> bool
+    requires coords_value { off_grid coords.now ≡ false }
     requires before_in_bounds { (before < length (points_of coords.now)) × (s < length (points_of coords.now)) × (t < length (points_of coords.now)) }
     requires e_in_bounds { (e < length (points_of coords.now)) × (after < length (points_of coords.now)) }
-    ensures { result ≡ may_join (points_of coords.now) marks.now (corner_of before s t) (corner_of t e after) }
+    ensures { result ≡ may_join (points_of coords.now) (corner_of before s t) (corner_of t e after) }
 {
-    if both_marked(marks, s, e) {
-        return false;
-    }
     if turns_right(coords, before, s, t) {
         return false;
     }
@@ -79,7 +57,6 @@ fn corner_beyond(vert: &[u16; 512], links: &[u16; 512], i: usize) -> usize
 // At place s, behind which comes e: the mate of its edge among the pieces from number `from` on.
 pub fn look_at(
     coords: &[f32],
-    marks: &[u32],
     edges: &[u32; 1536],
     eights: &[u64; 512],
     vert: &[u16; 512],
@@ -90,11 +67,11 @@ pub fn look_at(
     s: usize,
     e: usize,
 ) -> Look
-    requires coords_value { (off_grid coords.now ≡ false) × (length marks.now ≡ length (points_of coords.now)) }
+    requires coords_value { off_grid coords.now ≡ false }
     requires lie { Lie edges.now eights.now from count × (from ≤ count) }
     requires each { Each (Each (λ v. v < length (points_of coords.now))) (later edges.now from count) × (length (points_of coords.now) ≤ 512) }
     requires readable { Readable (length (points_of coords.now)) vert.now succ.now pred.now s e }
-    ensures { Looked (may_join (points_of coords.now) marks.now) edges.now from count vert.now succ.now pred.now s e result }
+    ensures { Looked (may_join (points_of coords.now)) edges.now from count vert.now succ.now pred.now s e result }
 {
     let at_s = place(vert[s]);
     let at_e = place(vert[e]);
@@ -104,7 +81,7 @@ pub fn look_at(
     };
     let before = corner_beyond(vert, pred, s);
     let after = corner_beyond(vert, succ, e);
-    if may_join(coords, marks, before, at_s, third, at_e, after) {
+    if may_join(coords, before, at_s, third, at_e, after) {
         Look::Joins { piece, third }
     } else {
         Look::Refused

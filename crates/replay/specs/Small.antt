@@ -1,4 +1,4 @@
--- What a block of at most 65536 bytes can count: each record has at least 32 bytes, and at most 2048 inputs.
+-- What a block of at most 65536 bytes can count: each record has at least 28 bytes, and at most 2048 inputs.
 use Rattle.std.specs.Prelude.{◌≤◌}
 use Rattle.replay.specs.declared.Tally.{Tally}
 

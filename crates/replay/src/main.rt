@@ -55,7 +55,7 @@ fn replay(block: &[u8]) -> Tally
     let mut different = 0;
     let mut first = 0;
     let mut left = block.len();
-    while 32 <= left {
+    while 28 <= left {
         let next = record::rest(block, block.len() - left);
         if !record::formed(next) {
             return Tally {

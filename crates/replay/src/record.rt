@@ -1,12 +1,12 @@
-// A record: an input of an exported entry, and what must come back. It is eight numbers of four bytes, low byte first (the entry, 1 to 6;
-// how many bytes of five parts follow, at most 8192 each; number; count or answer, 0 outside, 1 inside, 2 border), and then those parts:
+// A record: an input of an exported entry, and what must come back. It is seven numbers of four bytes, low byte first (the entry, 1 to 6;
+// how many bytes of four parts follow, at most 8192 each; number; count or answer, 0 outside, 1 inside, 2 border), and then those parts:
 //
-//   entry               1st part     2nd part   3rd part             4th part          5th part
-//   1 cutter            coordinates                                  lent indices
-//   2 merger            coordinates  marks      triangles            lent indices      lent lengths
-//   3, 4 point tests    coordinates             the asked point
-//   5 root                                      the first radicand   the roots' bits
-//   6 hull              coordinates                                  lent indices
+//   entry               1st part     2nd part             3rd part          4th part
+//   1 cutter            coordinates                       lent indices
+//   2 merger            coordinates  triangles            lent indices      lent lengths
+//   3, 4 point tests    coordinates  the asked point
+//   5 root                           the first radicand   the roots' bits
+//   6 hull              coordinates                       lent indices
 //
 // The lent parts are as they must be after the call; before it they hold 90 everywhere. A record of the root says it of a radicand and of
 // those that follow it, as many as its count.
@@ -49,20 +49,19 @@ fn number(bytes: &[u8], i: usize) -> u32
 
 // How many bytes part i has: at most 8192.
 fn bytes(record: &[u8], i: usize) -> usize
-    requires { i ≤ 5 }
+    requires { i ≤ 4 }
     ensures { result ≤ 8192 }
 {
     let n = number(record, i) as usize;
     if n <= 8192 { n } else { 8192 }
 }
 
-// Whether all five parts are short enough.
+// Whether all four parts are short enough.
 fn short(record: &[u8]) -> bool {
     number(record, 1) <= 8192
         && number(record, 2) <= 8192
         && number(record, 3) <= 8192
         && number(record, 4) <= 8192
-        && number(record, 5) <= 8192
 }
 
 // Whether a record has the parts that its entry takes.
@@ -70,44 +69,38 @@ pub fn formed(record: &[u8]) -> bool {
     if !short(record) {
         return false;
     }
-    let marks = number(record, 2);
-    let given = number(record, 3);
-    let indices = number(record, 4);
-    let lengths = number(record, 5);
+    let given = number(record, 2);
+    let indices = number(record, 3);
+    let lengths = number(record, 4);
     match number(record, 0) {
-        1 | 6 => marks == 0 && given == 0 && lengths == 0,
+        1 | 6 => given == 0 && lengths == 0,
         2 => true,
-        3 | 4 => marks == 0 && given == 8 && indices == 0 && lengths == 0,
+        3 | 4 => given == 8 && indices == 0 && lengths == 0,
         5 => number(record, 1) == 0
-            && marks == 0
             && given == 4
             && lengths == 0
             && indices % 4 == 0
-            && number(record, 7) == indices / 4,
+            && number(record, 6) == indices / 4,
         _ => false,
     }
 }
 
 // How many bytes a record has.
 pub fn size(record: &[u8]) -> usize
-    ensures lower_bound { 32 ≤ result }
-    ensures upper_bound { result ≤ 40992 }
+    ensures lower_bound { 28 ≤ result }
+    ensures upper_bound { result ≤ 32796 }
 {
-    32 + bytes(record, 1)
-        + bytes(record, 2)
-        + bytes(record, 3)
-        + bytes(record, 4)
-        + bytes(record, 5)
+    28 + bytes(record, 1) + bytes(record, 2) + bytes(record, 3) + bytes(record, 4)
 }
 
 fn cut(record: &[u8], coords: &[u8], indices: &[u8]) -> bool {
     let mut all = lent();
-    let room = &mut all[..bytes(record, 4)];
+    let room = &mut all[..bytes(record, 3)];
     let a = hasplight::hasplight_triangulate_ear_clipping(coords, room);
-    if a.number != number(record, 6) {
+    if a.number != number(record, 5) {
         return false;
     }
-    if a.count != number(record, 7) {
+    if a.count != number(record, 6) {
         return false;
     }
     same(room, indices)
@@ -115,34 +108,27 @@ fn cut(record: &[u8], coords: &[u8], indices: &[u8]) -> bool {
 
 fn hull(record: &[u8], coords: &[u8], indices: &[u8]) -> bool {
     let mut all = lent();
-    let room = &mut all[..bytes(record, 4)];
+    let room = &mut all[..bytes(record, 3)];
     let a = hasplight::hull::hasplight_convex_hull2_idx(coords, room);
-    if a.number != number(record, 6) {
+    if a.number != number(record, 5) {
         return false;
     }
-    if a.count != number(record, 7) {
+    if a.count != number(record, 6) {
         return false;
     }
     same(room, indices)
 }
 
-fn merge(
-    record: &[u8],
-    coords: &[u8],
-    marks: &[u8],
-    triangles: &[u8],
-    indices: &[u8],
-    lengths: &[u8],
-) -> bool {
+fn merge(record: &[u8], coords: &[u8], triangles: &[u8], indices: &[u8], lengths: &[u8]) -> bool {
     let mut all = lent();
     let mut sizes = lent();
-    let room = &mut all[..bytes(record, 4)];
-    let places = &mut sizes[..bytes(record, 5)];
-    let a = hasplight::hasplight_hertel_mehlhorn_idx(coords, marks, triangles, room, places);
-    if a.number != number(record, 6) {
+    let room = &mut all[..bytes(record, 3)];
+    let places = &mut sizes[..bytes(record, 4)];
+    let a = hasplight::hasplight_hertel_mehlhorn_idx(coords, triangles, room, places);
+    if a.number != number(record, 5) {
         return false;
     }
-    if a.count != number(record, 7) {
+    if a.count != number(record, 6) {
         return false;
     }
     if !same(room, indices) {
@@ -159,10 +145,10 @@ fn ask(record: &[u8], coords: &[u8], spot: &[u8], convex: bool) -> bool {
     } else {
         hasplight::hasplight_point_in_poly2d(x, y, coords)
     };
-    if v.number != number(record, 6) {
+    if v.number != number(record, 5) {
         return false;
     }
-    v.answer == number(record, 7)
+    v.answer == number(record, 6)
 }
 
 fn other_root(m: u32, root: u32) -> usize
@@ -194,7 +180,7 @@ pub fn inputs(record: &[u8]) -> usize
     ensures { result ≤ 2048 }
 {
     if number(record, 0) == 5 {
-        bytes(record, 4) / 4
+        bytes(record, 3) / 4
     } else {
         1
     }
@@ -210,25 +196,23 @@ fn one_unless(good: bool) -> usize
 pub fn different(record: &[u8]) -> usize
     ensures { result ≤ 2048 }
 {
-    let first = rest(record, 32);
+    let first = rest(record, 28);
     let coords = front(first, bytes(record, 1));
     let second = rest(first, bytes(record, 1));
-    let marks = front(second, bytes(record, 2));
+    let given = front(second, bytes(record, 2));
     let third = rest(second, bytes(record, 2));
-    let given = front(third, bytes(record, 3));
+    let indices = front(third, bytes(record, 3));
     let fourth = rest(third, bytes(record, 3));
-    let indices = front(fourth, bytes(record, 4));
-    let fifth = rest(fourth, bytes(record, 4));
-    let lengths = front(fifth, bytes(record, 5));
+    let lengths = front(fourth, bytes(record, 4));
     let entry = number(record, 0);
     if entry == 1 {
         return one_unless(cut(record, coords, indices));
     }
     if entry == 2 {
-        return one_unless(merge(record, coords, marks, given, indices, lengths));
+        return one_unless(merge(record, coords, given, indices, lengths));
     }
     if entry == 5 {
-        return other_roots(number(given, 0), indices, bytes(record, 4) / 4);
+        return other_roots(number(given, 0), indices, bytes(record, 3) / 4);
     }
     if entry == 6 {
         return one_unless(hull(record, coords, indices));

@@ -27,7 +27,7 @@ use Rattle.rules.proofs.Rows.{passes, applies, row_on, front_none, front_skips, 
 use Rattle.rules.proofs.Fronts.{cutter-front, thirteen_front, seven_front, list_front, triangles-front, cloud_front}
 use Rattle.rules.proofs.Points.{differ, apart→not_same}
 use Rattle.rules.proofs.Outline.{all-points}
-use Rattle.rules.proofs.Outlines.{Outlined, outlined, marked-each, marked_outline}
+use Rattle.rules.proofs.Outlines.{Outlined, outlined}
 use Rattle.rules.proofs.Stuck.{NoEarLeft, stuck→no_ear, no_ear→stuck}
 use Rattle.rules.proofs.Answers.{cutter-number}
 
@@ -193,9 +193,8 @@ module _ (cs : List Float) (out : List ℕ) where
 
 -- ---- the merger's
 
-pub record InRange (cs : List Float) (marks : ℕ) (triangles : List ℕ) (room room_for_lengths : ℕ) : Type 0 where
+pub record InRange (cs : List Float) (triangles : List ℕ) (room room_for_lengths : ℕ) : Type 0 where
   pub outlines : Outlined 0 most_points cs
-  pub mark_each : marks ≡ length (points_of cs)
   pub whole : length triangles % 3 ≡ 0
   pub few : length triangles / 3 ≤ most_triangles
   pub below : Each (λ i. i < length (points_of cs)) triangles
@@ -210,23 +209,22 @@ whole_list n e =
     let (most, e₁₀) = passes (ltb most_triangles (n / 3)) 9 _ e₈ in
     (eqb-true (n % 3) 0 (not-false (eqb (n % 3) 0) ragged), ltb-false most_triangles (n / 3) most)
 
-module _ (cs : List Float) (marks : ℕ) (triangles : List ℕ) (room room_for_lengths : ℕ) where
+module _ (cs : List Float) (triangles : List ℕ) (room room_for_lengths : ℕ) where
   abbrev n : ℕ
   n = length triangles
 
-  pub in_range : first_refusal (merger_checks cs marks triangles room room_for_lengths) ≡ 0 → InRange cs marks triangles room room_for_lengths
+  pub in_range : first_refusal (merger_checks cs triangles room room_for_lengths) ≡ 0 → InRange cs triangles room room_for_lengths
   unfolding out_of_range
   in_range e =
       let points = length (points_of cs) in
-      let none = front_none (triangles-front cs marks triangles room room_for_lengths) e in
-      let first = front_none (list_front cs marks n) none in
-      let (whole, few) = whole_list n (sym (others_decide (list_front cs marks n) first) ∙ none) in
-      let (out, e₉) = passes (out_of_range points triangles) 8 _ (sym (others_decide (triangles-front cs marks triangles room room_for_lengths) none) ∙ e) in
+      let none = front_none (triangles-front cs triangles room room_for_lengths) e in
+      let first = front_none (list_front cs n) none in
+      let (whole, few) = whole_list n (sym (others_decide (list_front cs n) first) ∙ none) in
+      let (out, e₉) = passes (out_of_range points triangles) 8 _ (sym (others_decide (triangles-front cs triangles room room_for_lengths) none) ∙ e) in
       let (short, e₆) = passes (ltb room n || ltb room_for_lengths (n / 3)) 5 _ e₉ in
       let (s, t) = or-false (ltb room n) (ltb room_for_lengths (n / 3)) short in
       record {
-        outlines = marked_outline cs marks first;
-        mark_each = marked-each cs marks first;
+        outlines = outlined 0 most_points cs first;
         whole = whole;
         few = few;
         below = each_imp (λ i h. ltb-true i points (not-false (ltb i points) h)) (none_passes (λ i. not (ltb i points)) triangles out);

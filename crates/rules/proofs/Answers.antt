@@ -16,7 +16,7 @@ use Rattle.rules.specs.Layout.{flatten, triples, over}
 use Rattle.rules.specs.Hull.{hull}
 use Rattle.rules.specs.Refusals.{Row, first_refusal, cutter_checks, merger_checks, point_test_checks, hull_checks}
 use Rattle.rules.specs.Border.{Position, outside}
-use Rattle.rules.specs.Entries.{unless, Cutting, Merging, Asking, Hulling, triangles_of, triangles_for, cutter, merger_by, merger, asking, huller, written_triangles, written_pieces, written_corners}
+use Rattle.rules.specs.Entries.{unless, Cutting, Merging, Asking, Hulling, triangles_of, triangles_for, cutter, merger, asking, huller, written_triangles, written_pieces, written_corners}
 use Rattle.rules.specs.Lines.{Writing, writing}
 use Rattle.rules.proofs.Layouts.{take-over, triangles-length, triangles-back, pieces-back}
 
@@ -78,41 +78,41 @@ module _ (cs : List Float) (out : List ℕ) where
 
 -- ---- the merger
 
-module _ (cs : List Float) (marks triangles out lens : List ℕ) where
+module _ (cs : List Float) (triangles out lens : List ℕ) where
   abbrev pieces : List (List ℕ)
-  pieces = merge (may_join (points_of cs) marks) (triples triangles)
+  pieces = merge (may_join (points_of cs)) (triples triangles)
 
-  pub merger-number : (merger cs marks triangles out lens).number ≡ first_refusal (merger_checks cs (length marks) triangles (length out) (length lens))
-  unfolding merger merger_by
-  merger-number = unless-number (λ (r : Merging). r.number) _ _ (λ n. refl) refl (first_refusal (merger_checks cs (length marks) triangles (length out) (length lens)))
+  pub merger-number : (merger cs triangles out lens).number ≡ first_refusal (merger_checks cs triangles (length out) (length lens))
+  unfolding merger
+  merger-number = unless-number (λ (r : Merging). r.number) _ _ (λ n. refl) refl (first_refusal (merger_checks cs triangles (length out) (length lens)))
 
-  pub merger-answered : (merger cs marks triangles out lens).number ≡ 0 → merger cs marks triangles out lens ≡ record { number = 0; count = length pieces; indices = over (flatten pieces) out; lengths = over (map length pieces) lens }
-  unfolding merger merger_by
+  pub merger-answered : (merger cs triangles out lens).number ≡ 0 → merger cs triangles out lens ≡ record { number = 0; count = length pieces; indices = over (flatten pieces) out; lengths = over (map length pieces) lens }
+  unfolding merger
   merger-answered e = unless-answered _ _ (sym merger-number ∙ e)
 
-  pub merger_refused : (merger cs marks triangles out lens).number ≢ 0 → merger cs marks triangles out lens ≡ record { number = (merger cs marks triangles out lens).number; count = 0; indices = out; lengths = lens }
-  unfolding merger merger_by
+  pub merger_refused : (merger cs triangles out lens).number ≢ 0 → merger cs triangles out lens ≡ record { number = (merger cs triangles out lens).number; count = 0; indices = out; lengths = lens }
+  unfolding merger
   merger_refused d = unless_refused _ _ (λ e. d (merger-number ∙ e)) ∙ ap (λ n. record { number = n; count = 0; indices = out; lengths = lens }) (sym merger-number)
 
   -- a refused call reports no piece and leaves every lent index and length as it was
-  pub merger_none : (merger cs marks triangles out lens).number ≢ 0 → ((merger cs marks triangles out lens).count ≡ 0) × ((merger cs marks triangles out lens).indices ≡ out) × ((merger cs marks triangles out lens).lengths ≡ lens)
+  pub merger_none : (merger cs triangles out lens).number ≢ 0 → ((merger cs triangles out lens).count ≡ 0) × ((merger cs triangles out lens).indices ≡ out) × ((merger cs triangles out lens).lengths ≡ lens)
   merger_none d =
       let e = merger_refused d in
       (ap (λ (r : Merging). r.count) e, ap (λ (r : Merging). r.indices) e, ap (λ (r : Merging). r.lengths) e)
 
-  pub merger-written : (merger cs marks triangles out lens).number ≡ 0 → written_pieces (merger cs marks triangles out lens) ≡ pieces
+  pub merger-written : (merger cs triangles out lens).number ≡ 0 → written_pieces (merger cs triangles out lens) ≡ pieces
   merger-written e =
       let n : length pieces ≡ length (map length pieces) = sym (length-map pieces length) in
       rw (merger-answered e, n, take-over (map length pieces) lens) (pieces-back pieces (drop (length (flatten pieces)) out))
 
   -- after 0, what lies beyond the reported pieces keeps its contents
   abbrev corners : ℕ
-  corners = length (flatten (written_pieces (merger cs marks triangles out lens)))
+  corners = length (flatten (written_pieces (merger cs triangles out lens)))
 
-  pub merger-beyond : (merger cs marks triangles out lens).number ≡ 0 → drop corners (merger cs marks triangles out lens).indices ≡ drop corners out
+  pub merger-beyond : (merger cs triangles out lens).number ≡ 0 → drop corners (merger cs triangles out lens).indices ≡ drop corners out
   merger-beyond e = rw (merger-written e, merger-answered e) (over-beyond (flatten pieces) out)
 
-  pub merger-lengths-beyond : (merger cs marks triangles out lens).number ≡ 0 → drop (merger cs marks triangles out lens).count (merger cs marks triangles out lens).lengths ≡ drop (merger cs marks triangles out lens).count lens
+  pub merger-lengths-beyond : (merger cs triangles out lens).number ≡ 0 → drop (merger cs triangles out lens).count (merger cs triangles out lens).lengths ≡ drop (merger cs triangles out lens).count lens
   merger-lengths-beyond e =
       let n : length pieces ≡ length (map length pieces) = sym (length-map pieces length) in
       rw (merger-answered e, n) (over-beyond (map length pieces) lens)

@@ -29,11 +29,11 @@ AscendingCorners = Ascending (λ c. c.at)
 
 -- ---- the rings
 
-pub count_ascending : (i n : ℕ) → AscendingRing (count_from i n)
+count_ascending : (i n : ℕ) → AscendingRing (count_from i n)
 count_ascending i zero = empty
 count_ascending i (suc n) = below (each_imp (λ j h. h.0) (count-within (suc i) n)) (count_ascending (suc i) n)
 
-pub without_ascending : (i : ℕ) {l : List ℕ} → AscendingRing l → AscendingRing (without i l)
+without_ascending : (i : ℕ) {l : List ℕ} → AscendingRing l → AscendingRing (without i l)
 unfolding without
 without_ascending i empty = empty
 without_ascending i (below {a} {l} h r) = go (eqb a i) (without_ascending i r)

@@ -1,8 +1,8 @@
--- A cut, and the merge of what it has written: the merger accepts it, given room and a mark for each point, and its pieces keep the outline's parity, area, size and border.
--- No piece turns right where the cut's last triangle, which is not tested, is not clockwise. A joint that must stay is between two pieces.
+-- A cut, and the merge of what it has written: the merger accepts it, given room, and its pieces keep the outline's parity, area, size and border.
+-- No piece turns right where the cut's last triangle, which is not tested, is not clockwise.
 use Prim.Native.Nat.{ℕ, ◌*◌, ◌-◌, ◌/◌, ◌%◌, ◌≤◌, ◌<◌}
 use mathlib.Core.Path.{◌≡◌, refl, sym, ◌∙◌, ap, subst}
-use mathlib.Core.Bool.{true, false, not, ◌||◌}
+use mathlib.Core.Bool.{false, not, ◌||◌}
 use mathlib.Core.List.{List, [], ◌∷◌, map}
 use native.Mathlib.Omega.{arith}
 use native.Mathlib.Nat.{mul-div_cancel_left, mul-mod_right}
@@ -16,32 +16,28 @@ use Rattle.algebra.specs.Lists.{Each, end, ◌&◌, count_from}
 use Rattle.algebra.proofs.Lists.{each_head}
 use Rattle.algebra.specs.Sums.{total, integers, naturals}
 use Rattle.algebra.specs.Rings.{Corner, ring_of, last_of}
-use Rattle.algebra.proofs.Rings.{edge}
 use Rattle.rules.specs.Limits.{most_points, most_triangles}
 use Rattle.rules.specs.Plane.{Pt}
 use Rattle.rules.specs.Grid.{points_of}
 use Rattle.rules.specs.Crossing.{odd, odd_crossings}
 use Rattle.rules.specs.Cut.{done, cut}
-use Rattle.rules.specs.Merge.{bolted, may_join, merge}
 use Rattle.rules.specs.Layout.{flatten, triples}
-use Rattle.rules.specs.Refusals.{first_refusal, out_of_range, marked_checks, list_checks, before_triangles, merger_checks}
+use Rattle.rules.specs.Refusals.{first_refusal, out_of_range, list_checks, before_triangles, merger_checks}
 use Rattle.rules.specs.Entries.{triangles_for, cutter, merger, written_triangles, written_pieces}
 use Rattle.rules.specs.Measure.{points, area2, NotRight, NotClockwise, NoneRight}
+use Rattle.rules.specs.Lines.{areas_for}
 use Rattle.rules.proofs.Ears.{cut-not-right}
 use Rattle.rules.proofs.Pieces.{merge-no-right}
-use Rattle.rules.proofs.KeptEdges.{EdgeOf}
-use Rattle.rules.proofs.Joints.{may_join_turns}
 use Rattle.rules.proofs.Outline.{cut-count}
-use Rattle.rules.proofs.Breaks.{OneWay, pieces_one_way, Breaks, breaks}
 use Rattle.rules.proofs.Layouts.{flat-each, triangles-length, triangles-back}
 use Rattle.rules.proofs.Rows.{row_off, no_rows, front_none, others_decide}
 use Rattle.rules.proofs.Fronts.{seven_front, list_front, triangles-front}
-use Rattle.rules.proofs.Outlines.{Outlined, outline_none, matched}
+use Rattle.rules.proofs.Outlines.{Outlined, outline_none}
 use Rattle.rules.proofs.Answers.{cutter-number, cutter-indices, merger-number, merger-written}
 use Rattle.rules.proofs.Accepted.{Accepted, ready}
 use Rattle.rules.proofs.Borders.{Bordered}
-use Rattle.rules.proofs.Plans.{triangles_size, plan_border, triangles_plan, merged_plan}
-use Rattle.rules.proofs.Results.{triangles_are, not_right, cut_result, outline_above, written-inside, written_area, merged_inside, merged_area, merged_size, joint-stays}
+use Rattle.rules.proofs.Plans.{triangles_size, plan_border, triangles_plan, areas_plan}
+use Rattle.rules.proofs.Results.{triangles_are, not_right, cut_result, outline_above, written-inside, written_area, merged_inside, merged_area, merged_size}
 
 -- ---- the merger's rows on triangles of an outline
 
@@ -52,10 +48,10 @@ in_range_none n (◌&◌ {a} h k) = rw (lt-ltb a n h) (in_range_none n k)
 
 -- none applies to the triangles of an accepted outline where there is room
 pub triangles_pass :
-    (cs : List Float) (marks k room room_for_lengths : ℕ) → Outlined 0 most_points cs → marks ≡ length (points_of cs) → Accepted (points_of cs) k → 3 * (length (points_of cs) - 2) ≤ room → length (points_of cs) - 2 ≤ room_for_lengths
-    → first_refusal (merger_checks cs marks (flatten (triangles_for (points_of cs))) room room_for_lengths) ≡ 0
+    (cs : List Float) (k room room_for_lengths : ℕ) → Outlined 0 most_points cs → Accepted (points_of cs) k → 3 * (length (points_of cs) - 2) ≤ room → length (points_of cs) - 2 ≤ room_for_lengths
+    → first_refusal (merger_checks cs (flatten (triangles_for (points_of cs))) room room_for_lengths) ≡ 0
 unfolding list_checks
-triangles_pass cs marks k room room_for_lengths outlines mark_each a fits fits_lengths =
+triangles_pass cs k room room_for_lengths outlines a fits fits_lengths =
     let l = flatten (triangles_for (points_of cs)) in
     let m = length (points_of cs) - 2 in
     let n : length l ≡ 3 * m = ap (λ (ts : List (List ℕ)). length (flatten ts)) (triangles_are a) ∙ triangles-length a.triangles ∙ ap (λ (c : ℕ). 3 * c) (cut-count (points_of cs) a.triangles a.three a.is_cut) in
@@ -66,9 +62,8 @@ triangles_pass cs marks k room room_for_lengths outlines mark_each a fits fits_l
     let count : ltb most_triangles (length l / 3) ≡ false = rw d (le-ltb most_triangles m (omega (arith, a.at_most))) in
     let short : (ltb room (length l) || ltb room_for_lengths (length l / 3)) ≡ false = rw (d, n, le-ltb room (3 * m) fits) (le-ltb room_for_lengths m fits_lengths) in
     let range = in_range_none (length (points_of cs)) (flat-each (triangles_plan (points_of cs) k a).below) in
-    let first : first_refusal (marked_checks cs marks) ≡ 0 = ap first_refusal (matched cs marks mark_each) ∙ outline_none outlines in
-    let early : first_refusal (before_triangles cs marks (length l)) ≡ 0 = others_decide (list_front cs marks (length l)) first ∙ row_off 8 _ whole ∙ row_off 10 _ count ∙ no_rows in
-    others_decide (triangles-front cs marks l room room_for_lengths) early ∙ row_off 9 _ range ∙ row_off 6 _ short ∙ no_rows
+    let early : first_refusal (before_triangles cs (length l)) ≡ 0 = others_decide (list_front cs (length l)) (outline_none outlines) ∙ row_off 8 _ whole ∙ row_off 10 _ count ∙ no_rows in
+    others_decide (triangles-front cs l room room_for_lengths) early ∙ row_off 9 _ range ∙ row_off 6 _ short ∙ no_rows
 
 -- ---- the last triangle
 
@@ -95,7 +90,7 @@ written-border cs out ok p =
 
 -- ---- both
 
-module _ (cs : List Float) (cut_out marks out lens : List ℕ) (cut_ok : (cutter cs cut_out).number ≡ 0) (mark_each : length marks ≡ length (points_of cs))
+module _ (cs : List Float) (cut_out out lens : List ℕ) (cut_ok : (cutter cs cut_out).number ≡ 0)
     (room : 3 * (length (points_of cs) - 2) ≤ length out) (room-for-lengths : length (points_of cs) - 2 ≤ length lens) where
   abbrev ps : List Pt
   ps = points_of cs
@@ -105,7 +100,7 @@ module _ (cs : List Float) (cut_out marks out lens : List ℕ) (cut_ok : (cutter
   given = take (3 * (cutter cs cut_out).count) (cutter cs cut_out).indices
 
   abbrev pieces : List (List ℕ)
-  pieces = written_pieces (merger cs marks given out lens)
+  pieces = written_pieces (merger cs given out lens)
 
   -- the cut's triangles
   abbrev ts : List (Corner ℕ)
@@ -120,17 +115,17 @@ module _ (cs : List Float) (cut_out marks out lens : List ℕ) (cut_ok : (cutter
       record { even = o.even; at_least = omega arith; at_most = o.at_most; on_grid = o.on_grid }
 
   -- the merger accepts what the cut has written
-  pub merger_takes : (merger cs marks given out lens).number ≡ 0
+  pub merger_takes : (merger cs given out lens).number ≡ 0
   merger_takes =
-      let rows = triangles_pass cs (length marks) (length cut_out) (length out) (length lens) outline mark_each (cut_result cs cut_out cut_ok).outline room room-for-lengths in
-      merger-number cs marks given out lens ∙ subst (λ (l : List ℕ). first_refusal (merger_checks cs (length marks) l (length out) (length lens)) ≡ 0) (sym given_is) rows
+      let rows = triangles_pass cs (length cut_out) (length out) (length lens) outline (cut_result cs cut_out cut_ok).outline room room-for-lengths in
+      merger-number cs given out lens ∙ subst (λ (l : List ℕ). first_refusal (merger_checks cs l (length out) (length lens)) ≡ 0) (sym given_is) rows
 
   -- at every grid point the outline's crossing parity is that of the merged areas'
   pub both_inside : (p : Pt) → odd_crossings p ps ≡ odd (λ t. odd_crossings p (points ps t)) pieces
-  both_inside p = written-inside cs cut_out cut_ok p ∙ sym (merged_inside cs marks given out lens merger_takes p)
+  both_inside p = written-inside cs cut_out cut_ok p ∙ sym (merged_inside cs given out lens merger_takes p)
 
   pub both_area : area2 ps ≡ total integers (λ t. area2 (points ps t)) pieces
-  both_area = written_area cs cut_out cut_ok ∙ sym (merged_area cs marks given out lens merger_takes)
+  both_area = written_area cs cut_out cut_ok ∙ sym (merged_area cs given out lens merger_takes)
 
   -- to more than zero
   pub both_above : pos 0 <ℤ total integers (λ t. area2 (points ps t)) pieces
@@ -138,30 +133,21 @@ module _ (cs : List Float) (cut_out marks out lens : List ℕ) (cut_ok : (cutter
 
   -- what the merged areas say of the outline's border
   pub both_border : (p : Pt) → Bordered ps (map (points ps) pieces) p
+  unfolding areas_for
   both_border p =
       let a = (cut_result cs cut_out cut_ok).outline in
       let triangles : triples given ≡ triangles_for ps = ap triples (given_is ∙ ap flatten (triangles_are a)) ∙ triangles-back ts ∙ sym (triangles_are a) in
-      rw (merger-written cs marks given out lens merger_takes, triangles) (plan_border ps (merge (may_join ps marks) (triangles_for ps)) a.three (merged_plan (may_join ps marks) (triangles_plan ps (length cut_out) a)) p)
+      rw (merger-written cs given out lens merger_takes, triangles) (plan_border ps (areas_for ps) a.three (areas_plan ps (length cut_out) a) p)
 
   -- the sum of (corners - 2) over the merged areas is the outline's
   pub both_size : length ps - 2 ≡ total naturals (λ t. length t - 2) pieces
   both_size =
       let a = (cut_result cs cut_out cut_ok).outline in
-      sym (merged_size cs marks given out lens merger_takes ∙ ap (λ l. total naturals (λ t. length t - 2) (triples l)) (given_is ∙ ap flatten (triangles_are a)) ∙ ap (total naturals (λ t. length t - 2)) (triangles-back ts) ∙ triangles_size ts ∙ cut-count ps ts a.three a.is_cut)
+      sym (merged_size cs given out lens merger_takes ∙ ap (λ l. total naturals (λ t. length t - 2) (triples l)) (given_is ∙ ap flatten (triangles_are a)) ∙ ap (total naturals (λ t. length t - 2)) (triangles-back ts) ∙ triangles_size ts ∙ cut-count ps ts a.three a.is_cut)
 
   -- no corner of a merged area turns right if the cut's last triangle is not clockwise
   pub both_turns : NotClockwise ps (last_of [] (written_triangles (cutter cs cut_out))) → Each (NoneRight ps) pieces
   both_turns h =
       let r = cut_result cs cut_out cut_ok in
       let last = subst (λ (l : List (List ℕ)). NotClockwise ps (last_of [] l)) r.written h in
-      rw (merger-written cs marks given out lens merger_takes, r.written) (merge-no-right ps (may_join ps marks) (may_join_turns ps marks) ts (none_right ps ts r.outline.is_cut last))
-
-  -- a joint between the cut's triangles that must stay is one between two pieces
-  pub both_breaks :
-      (s e : ℕ) → bolted marks s e ≡ true → EdgeOf (written_triangles (cutter cs cut_out)) (edge s e) → EdgeOf (written_triangles (cutter cs cut_out)) (edge e s)
-      → Breaks pieces s e
-  both_breaks s e both there back =
-      let r = cut_result cs cut_out cut_ok in
-      let ways : Each OneWay pieces = rw (merger-written cs marks given out lens merger_takes, r.written) (pieces_one_way ps ts r.outline.three r.outline.is_cut (may_join ps marks)) in
-      let (here, behind) = joint-stays cs marks given out lens merger_takes s e both there back in
-      breaks ways here behind
+      rw (merger-written cs given out lens merger_takes, r.written) (merge-no-right ps ts (none_right ps ts r.outline.is_cut last))

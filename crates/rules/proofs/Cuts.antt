@@ -105,12 +105,12 @@ module _ {ring : List ℕ} (d : Distinct ring) {c : Corner ℕ} (at : Place ring
   rest-length = rw (rest_is, at.whole, length-append at.front (c.at ∷ at.back), length-append at.front at.back) (omega arith)
 
   -- the triangle and the rest have the ring's sum
-  pub rest_sum : {G : Type 0} (S : Sums G) (w : ℕ → ℕ → G) → ((a b : ℕ) → S.◌⊕◌ (w a b) (w b a) ≡ S.nil) → around S w ring ≡ S.◌⊕◌ (around S w (ring_of c)) (around S w (without c.at ring))
+  rest_sum : {G : Type 0} (S : Sums G) (w : ℕ → ℕ → G) → ((a b : ℕ) → S.◌⊕◌ (w a b) (w b a) ≡ S.nil) → around S w ring ≡ S.◌⊕◌ (around S w (ring_of c)) (around S w (without c.at ring))
   rest_sum S w back = rw (rest_is, at.before, at.after) (ap (around S w) at.whole ∙ remove S w back at.front c.at at.back)
 
 -- ---- the steps keep the sum, and the indices
 
-pub three-sum : {G : Type 0} (S : Sums G) (w : ℕ → ℕ → G) (ring : List ℕ) (c : Corner ℕ) (cs : List (Corner ℕ)) → length ring ≡ 3 → corners ring ≡ c ∷ cs → around S w ring ≡ around S w (ring_of c)
+three-sum : {G : Type 0} (S : Sums G) (w : ℕ → ℕ → G) (ring : List ℕ) (c : Corner ℕ) (cs : List (Corner ℕ)) → length ring ≡ 3 → corners ring ≡ c ∷ cs → around S w ring ≡ around S w (ring_of c)
 three-sum S w [] c cs n e = absurd (omega arith)
 three-sum S w (x ∷ []) c cs n e = absurd (omega arith)
 three-sum S w (x ∷ y ∷ []) c cs n e = absurd (omega arith)

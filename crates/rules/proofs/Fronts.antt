@@ -7,7 +7,7 @@ use lib.ListN.{length}
 use lib.Ieee.{Float}
 use Rattle.rules.specs.Limits.{most_points}
 use Rattle.rules.specs.Grid.{points_of}
-use Rattle.rules.specs.Refusals.{◌gives◌, off_grid, equal_neighbours, area_not_above_zero, no_ear, short_to_cut, count_checks, outline_checks, ring_checks, before_cutting, cutter_checks, marked_count_checks, marked_checks, list_checks, before_triangles, triangle_checks, merger_checks, point_test_checks, cloud_checks, hull_checks}
+use Rattle.rules.specs.Refusals.{◌gives◌, off_grid, equal_neighbours, area_not_above_zero, no_ear, short_to_cut, count_checks, outline_checks, ring_checks, before_cutting, cutter_checks, list_checks, before_triangles, triangle_checks, merger_checks, point_test_checks, cloud_checks, hull_checks}
 use Rattle.rules.specs.Lines.{polygon_room, polygon_checks}
 use Rattle.rules.proofs.Rows.{Front}
 
@@ -37,19 +37,15 @@ seven_front cs room = record { whole = refl; numbered = refl }
 
 -- ---- the merger
 
-pub marked-count-front : (cs : List Float) (marks : ℕ) → Front (marked_count_checks (length cs) marks) (off_grid cs gives 4 ∷ []) (marked_checks cs marks)
-unfolding marked_count_checks marked_checks
-marked-count-front cs marks = record { whole = refl; numbered = refl }
-
-pub list_front : (cs : List Float) (marks indices : ℕ) → Front (marked_checks cs marks) (list_checks indices) (before_triangles cs marks indices)
-unfolding marked_count_checks marked_checks before_triangles
-list_front cs marks indices = record { whole = refl; numbered = refl }
+pub list_front : (cs : List Float) (indices : ℕ) → Front (outline_checks 0 most_points cs) (list_checks indices) (before_triangles cs indices)
+unfolding count_checks outline_checks before_triangles
+list_front cs indices = record { whole = refl; numbered = refl }
 
 pub triangles-front :
-    (cs : List Float) (marks : ℕ) (triangles : List ℕ) (room room_for_lengths : ℕ)
-    → Front (before_triangles cs marks (length triangles)) (triangle_checks (points_of cs) triangles room room_for_lengths) (merger_checks cs marks triangles room room_for_lengths)
-unfolding marked_count_checks marked_checks list_checks before_triangles merger_checks
-triangles-front cs marks triangles room room_for_lengths = record { whole = refl; numbered = refl }
+    (cs : List Float) (triangles : List ℕ) (room room_for_lengths : ℕ)
+    → Front (before_triangles cs (length triangles)) (triangle_checks (points_of cs) triangles room room_for_lengths) (merger_checks cs triangles room room_for_lengths)
+unfolding count_checks outline_checks list_checks before_triangles merger_checks
+triangles-front cs triangles room room_for_lengths = record { whole = refl; numbered = refl }
 
 -- ---- the point tests
 

@@ -19,20 +19,20 @@ use Rattle.algebra.specs.Rings.{Edge, steps, edges, around}
 
 -- ---- what an edge counts
 
-abbrev pub is : Edge ℕ → ℕ → ℕ → Bool
+abbrev is : Edge ℕ → ℕ → ℕ → Bool
 is e a b = eqb e.from a && eqb e.to b
 
 abbrev one : Bool → ℤ
 one true = pos 1
 one false = pos 0
 
--- 1 for an edge that passes a test, -1 for one whose reverse does, 0 where both do or neither
-unfoldable pub passing : (ℕ → ℕ → Bool) → ℕ → ℕ → ℤ
-passing test a b = one (test a b) -ℤ one (test b a)
+-- 1 for the edge itself, -1 for its reverse, 0 for every other
+unfoldable pub counted : Edge ℕ → ℕ → ℕ → ℤ
+counted e a b = one (is e a b) -ℤ one (is e b a)
 
-pub passing_back : (test : ℕ → ℕ → Bool) (a b : ℕ) → passing test a b +ℤ passing test b a ≡ pos 0
-unfolding passing
-passing_back test a b = go (test a b) (test b a)
+pub counted_back : (e : Edge ℕ) (a b : ℕ) → counted e a b +ℤ counted e b a ≡ pos 0
+unfolding counted
+counted_back e a b = go (is e a b) (is e b a)
   where
     go : (s t : Bool) → (one s -ℤ one t) +ℤ (one t -ℤ one s) ≡ pos 0
     go true true = refl
@@ -40,19 +40,15 @@ passing_back test a b = go (test a b) (test b a)
     go false true = refl
     go false false = refl
 
--- 1 for the edge itself, -1 for its reverse, 0 for every other
-abbrev pub counted : Edge ℕ → ℕ → ℕ → ℤ
-counted e = passing (is e)
-
-pub is_from : (e : Edge ℕ) (a b : ℕ) → is e a b ≡ true → e.from ≡ a
+is_from : (e : Edge ℕ) (a b : ℕ) → is e a b ≡ true → e.from ≡ a
 is_from e a b h = eqb-true e.from a (and_true_l (eqb e.from a) (eqb e.to b) h)
 
-pub is_to : (e : Edge ℕ) (a b : ℕ) → is e a b ≡ true → e.to ≡ b
+is_to : (e : Edge ℕ) (a b : ℕ) → is e a b ≡ true → e.to ≡ b
 is_to e a b h = eqb-true e.to b (and_true_r (eqb e.from a) (eqb e.to b) h)
 
 module _ (e : Edge ℕ) (a b : ℕ) where
   another : is e a b ≡ false → counted e a b ≤ℤ pos 0
-  unfolding passing
+  unfolding counted
   another h = rw h (go (is e b a))
     where
       go : (t : Bool) → (pos 0 -ℤ one t) ≤ℤ pos 0
@@ -60,7 +56,7 @@ module _ (e : Edge ℕ) (a b : ℕ) where
       go false = record { le = tt }
 
   no-reverse : is e b a ≡ false → pos 0 ≤ℤ counted e a b
-  unfolding passing
+  unfolding counted
   no-reverse h = rw h (go (is e a b))
     where
       go : (t : Bool) → pos 0 ≤ℤ (one t -ℤ pos 0)
@@ -68,7 +64,7 @@ module _ (e : Edge ℕ) (a b : ℕ) where
       go false = record { le = tt }
 
   itself : is e a b ≡ true → is e b a ≡ false → pos 0 <ℤ counted e a b
-  unfolding passing
+  unfolding counted
   itself h k = rw (h, k) (record { lt = tt })
 
 -- ---- sums of what is not above zero, and of what is not below

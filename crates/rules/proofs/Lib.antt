@@ -32,10 +32,8 @@ pub mod QueueArrays
 pub mod QueueWindow
 pub mod QueueTurns
 pub mod KeptEdges
-pub mod Joints
 pub mod Measures
 pub mod Outline
-pub mod Breaks
 pub mod Layouts
 pub mod Rows
 pub mod Fronts

@@ -8,11 +8,12 @@ use lib.Dec.{eqb}
 use lib.ListN.{length}
 use Rattle.algebra.specs.Lists.{Each, end, ◌&◌, first}
 use Rattle.algebra.proofs.Lists.{each_++, each-front, each_back, each_head, each_tail}
-use Rattle.algebra.proofs.Equal.{impossible, eqb-true, and_true_l, and_true_r}
+use Rattle.algebra.proofs.Equal.{impossible, eqb-true, and_true_l, and_true_r, not-true, or-false}
 use Rattle.algebra.specs.Sums.{Sums, total}
 use Rattle.algebra.proofs.Sums.{total_++, left_comm}
-use Rattle.algebra.specs.Rings.{rotations}
-use Rattle.rules.specs.Merge.{follows, Part, last_first, mate, JoinTest, joint, join_with, join, next_join, go_on, merge_from, merge}
+use Rattle.rules.specs.Plane.{Pt}
+use Rattle.algebra.specs.Rings.{Corner, rotations}
+use Rattle.rules.specs.Merge.{follows, Part, last_first, mate, JoinTest, joint, bent, may_join, join_with, join, next_join, go_on, merge_from, merge}
 use Rattle.algebra.proofs.Rings.{Rotated, each_rotated, total_rotated, begun_rotated, rotations_are}
 
 -- ---- what the searches find
@@ -99,6 +100,11 @@ pub next_join_lem : (may : JoinTest) (a : List ℕ) (later : List (List ℕ)) (j
 unfolding next_join
 next_join_lem may a later j i = let (t, rotated, h) = first_some (join may later) j (rotations_are a) i in join_is may a later t j rotated h
 
+-- where two pieces may be joined, neither corner of the join turns right
+pub may_join_turns : (ps : List Pt) (s e : Corner ℕ) → may_join ps s e ≡ true → (bent ps s ≡ false) × (bent ps e ≡ false)
+unfolding may_join
+may_join_turns ps s e h = or-false _ _ (not-true _ h)
+
 -- ---- the chain
 
 data Merges (may : JoinTest) : List ℕ → List (List ℕ) → List (List ℕ) → Type 0 where
@@ -129,7 +135,7 @@ pub merge-join :
 unfolding merge merge_from
 merge-join may a later j e l = rw (← l, e)
 
--- ---- sums: what an allowed join adds up, the merge keeps
+-- ---- sums: what a join adds up, the merge keeps
 
 module _ {G : Type 0} (S : Sums G) where
   open S use {◌⊕◌, assoc}
@@ -143,22 +149,22 @@ module _ {G : Type 0} (S : Sums G) where
         rw (p.was, p.now, total_++ S f p.front (b ∷ p.back), total_++ S f p.front (last_first p.back), last_first-sum p.back)
         (left_comm S (total S f p.front) (f b) (total S f p.back))
 
-    module _ (rotated : (l m : List ℕ) → Rotated l m → f l ≡ f m) (may : JoinTest)
-        (adds : (s e : ℕ) (rest_a rest_b : List ℕ) → may (joint s e rest_a rest_b) (joint e s rest_b rest_a) ≡ true → f ((e ∷ rest_a) ++ (s ∷ rest_b)) ≡ f (s ∷ e ∷ rest_a) ⊕ f (e ∷ s ∷ rest_b)) where
-      join-sum : {a : List ℕ} {later : List (List ℕ)} {j : Part} → Join may a later j → f a ⊕ total S f later ≡ f j.piece ⊕ total S f j.others
+    module _ (rotated : (l m : List ℕ) → Rotated l m → f l ≡ f m)
+        (adds : (s e : ℕ) (rest_a rest_b : List ℕ) → f ((e ∷ rest_a) ++ (s ∷ rest_b)) ≡ f (s ∷ e ∷ rest_a) ⊕ f (e ∷ s ∷ rest_b)) where
+      join-sum : {may : JoinTest} {a : List ℕ} {later : List (List ℕ)} {j : Part} → Join may a later j → f a ⊕ total S f later ≡ f j.piece ⊕ total S f j.others
       join-sum {j} h =
-          rw (h.piece, adds h.s h.e h.rest_a h.rest_b h.allowed, picked_sum h.picked, rotated _ _ h.rotated_a, rotated _ _ h.rotated_b)
+          rw (h.piece, adds h.s h.e h.rest_a h.rest_b, picked_sum h.picked, rotated _ _ h.rotated_a, rotated _ _ h.rotated_b)
           (sym (assoc (f (h.s ∷ h.e ∷ h.rest_a)) (f (h.e ∷ h.s ∷ h.rest_b)) (total S f j.others)))
 
-      merges-sum : {a : List ℕ} {later r : List (List ℕ)} → Merges may a later r → total S f r ≡ f a ⊕ total S f later
+      merges-sum : {may : JoinTest} {a : List ℕ} {later r : List (List ℕ)} → Merges may a later r → total S f r ≡ f a ⊕ total S f later
       merges-sum rest_as_is = refl
       merges-sum (next_piece_lem {a} m) = ap (λ (x : G). f a ⊕ x) (merges-sum m)
       merges-sum (joined h m) = merges-sum m ∙ sym (join-sum h)
 
-      pub merge-sum : (pieces : List (List ℕ)) → total S f (merge may pieces) ≡ total S f pieces
+      pub merge-sum : (may : JoinTest) (pieces : List (List ℕ)) → total S f (merge may pieces) ≡ total S f pieces
       unfolding merge
-      merge-sum [] = refl
-      merge-sum (a ∷ later) = merges-sum (merges (length later) may a later)
+      merge-sum may [] = refl
+      merge-sum may (a ∷ later) = merges-sum (merges (length later) may a later)
 
 -- ---- what a join keeps, holds of every piece
 

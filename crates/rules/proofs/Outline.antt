@@ -33,10 +33,10 @@ all-points ps = let h : 0 + length ps ≡ length ps = omega arith in count-point
 -- ---- the theorems
 
 module _ (ps : List Pt) (ts : List (Corner ℕ)) (three : 3 ≤ length ps) (cuts-to : cut ps ≡ done ts) where
-  pub ring-length : length (count_from 0 (length ps)) ≡ (length ps - 3) + 3
+  ring-length : length (count_from 0 (length ps)) ≡ (length ps - 3) + 3
   ring-length = rw (count-length 0 (length ps)) (omega arith)
 
-  pub ring_cut : cut_ring (length ps - 3) ps (count_from 0 (length ps)) ≡ done ts
+  ring_cut : cut_ring (length ps - 3) ps (count_from 0 (length ps)) ≡ done ts
   unfolding cut
   ring_cut = cuts-to
 

@@ -1,21 +1,18 @@
--- Document 01's limits in numbers. What the rows of an outline leave where none applies, and that none applies where that is left; and what the
--- number of marks decides.
+-- Document 01's limits in numbers. What the rows of an outline leave where none applies, and that none applies where that is left.
 use Prim.Native.Nat.{ℕ, ◌*◌, ◌/◌, ◌%◌, ◌≤◌}
-use mathlib.Core.Path.{◌≡◌, refl, sym, ◌∙◌, ap}
-use mathlib.Core.Logic.{◌≢◌}
-use mathlib.Core.Bool.{Bool, true, false, not, ◌||◌}
-use mathlib.Core.List.{List, [], ◌∷◌, ◌++◌}
+use mathlib.Core.Path.{◌≡◌, refl, sym, ◌∙◌}
+use mathlib.Core.Bool.{false}
+use mathlib.Core.List.{List, []}
 use native.Mathlib.Omega.{arith}
-use borrow.Author.Tests.{ltb-false, le-ltb, eqb-false, ne_eqb}
+use borrow.Author.Tests.{ltb-false, le-ltb, eqb-false}
 use lib.Dec.{eqb, ltb}
 use lib.ListN.{length}
 use lib.Ieee.{Float}
 use Rattle.rules.specs.Limits.{grid_edge, most_points, most_coordinates, most_triangles, most_indices}
 use Rattle.rules.specs.Grid.{points_of}
-use Rattle.algebra.proofs.Equal.{eqb_same, eqb-true, not-false, or-false}
-use Rattle.rules.specs.Refusals.{Row, ◌gives◌, first_refusal, off_grid, size_checks, count_checks, outline_checks, unmatched, marked_count_checks, marked_checks}
-use Rattle.rules.proofs.Rows.{passes, row_on, row_off, no_rows, front_none, others_decide}
-use Rattle.rules.proofs.Fronts.{count-front, marked-count-front}
+use Rattle.rules.specs.Refusals.{first_refusal, off_grid, count_checks, outline_checks}
+use Rattle.rules.proofs.Rows.{passes, row_off, no_rows, front_none, others_decide}
+use Rattle.rules.proofs.Fronts.{count-front}
 use Rattle.rules.proofs.Coordinates.{points-length}
 
 -- ---- the limits
@@ -75,40 +72,3 @@ pub outline_none : {least most : ℕ} {cs : List Float} → Outlined least most 
 outline_none {least} {most} {cs} o =
     let c : Counted least most (length cs) = record { even = o.even; at_least = omega (arith, o.at_least, points-length cs); at_most = omega (arith, o.at_most, points-length cs) } in
     others_decide (count-front least most cs) (count_none c) ∙ row_off 4 [] o.on_grid ∙ no_rows
-
--- ---- points with a mark each
-
-or_none : (b : Bool) → (b || false) ≡ b
-or_none true = refl
-or_none false = refl
-
-or_one : (b : Bool) → (b || true) ≡ true
-or_one true = refl
-or_one false = refl
-
-module _ (coordinates marks : ℕ) where
-  -- as many marks as points: the rows are those of the coordinates alone
-  pub matched_count : marks ≡ coordinates / 2 → marked_count_checks coordinates marks ≡ count_checks 0 most_points coordinates
-  unfolding marked_count_checks count_checks
-  matched_count e =
-      let is : unmatched coordinates marks ≡ eqb (coordinates % 2) 1 = rw (e, eqb_same (coordinates / 2)) (or_none (eqb (coordinates % 2) 1)) in
-      ap (λ (b : Bool). b gives 1 ∷ size_checks 0 most_points (coordinates / 2)) is
-
-  pub unmatched-count : marks ≢ coordinates / 2 → 1 ≡ first_refusal (marked_count_checks coordinates marks)
-  unfolding marked_count_checks
-  unmatched-count d = sym (row_on 1 _ (rw (ne_eqb marks (coordinates / 2) d) (or_one (eqb (coordinates % 2) 1))))
-
-module _ (cs : List Float) (marks : ℕ) where
-  pub matched : marks ≡ length (points_of cs) → marked_checks cs marks ≡ outline_checks 0 most_points cs
-  unfolding marked_checks outline_checks
-  matched e = ap (λ (rows : List Row). rows ++ (off_grid cs gives 4 ∷ [])) (matched_count (length cs) marks (e ∙ points-length cs))
-
-  -- what they leave where none applies
-  pub marked-each : first_refusal (marked_checks cs marks) ≡ 0 → marks ≡ length (points_of cs)
-  unfolding marked_count_checks
-  marked-each e =
-      let one = (passes (unmatched (length cs) marks) 0 _ (front_none (marked-count-front cs marks) e)).0 in
-      eqb-true marks (length cs / 2) (not-false (eqb marks (length cs / 2)) (or-false (eqb (length cs % 2) 1) (not (eqb marks (length cs / 2))) one).1) ∙ sym (points-length cs)
-
-  pub marked_outline : first_refusal (marked_checks cs marks) ≡ 0 → Outlined 0 most_points cs
-  marked_outline e = outlined 0 most_points cs (ap first_refusal (sym (matched (marked-each e))) ∙ e)

@@ -1,7 +1,7 @@
 -- The merged pieces: the sum of (corners - 2) is kept, each has at least three corners, and none turns right where no given one did.
 use Prim.Native.Nat.{ℕ, ◌+◌, ◌-◌, ◌≤◌}
 use mathlib.Core.Path.{◌≡◌, sym, ◌∙◌, ap}
-use mathlib.Core.Bool.{true, false}
+use mathlib.Core.Bool.{true}
 use mathlib.Core.List.{List, [], ◌∷◌, ◌++◌, map}
 use native.Mathlib.Omega.{arith}
 use lib.ListN.{length, length-append}
@@ -10,18 +10,18 @@ use Rattle.algebra.proofs.Lists.{each_++, each_imp, each_map}
 use Rattle.algebra.specs.Sums.{Sums, total, naturals}
 use Rattle.rules.specs.Plane.{Pt, point}
 use Rattle.algebra.specs.Rings.{Corner, ring_of, around}
-use Rattle.rules.specs.Merge.{JoinTest, joint, bent, merge}
+use Rattle.rules.specs.Merge.{JoinTest, joint, may_join, merge}
 use Rattle.rules.specs.Measure.{NotRight, NoneRight}
 use Rattle.algebra.proofs.Rings.{Rotated, rotated_length, corners_rotated, each_rotated, around_rotated, join, corners-two}
 use Rattle.rules.proofs.Turns.{right_rotates}
-use Rattle.rules.proofs.Merges.{merge-sum, merge-each}
+use Rattle.rules.proofs.Merges.{merge-sum, merge-each, may_join_turns}
 
 -- ---- sizes
 
 abbrev beyond-two : List ℕ → ℕ
 beyond-two t = length t - 2
 
-pub join-beyond : (s e : ℕ) (rest_a rest_b : List ℕ) → beyond-two ((e ∷ rest_a) ++ (s ∷ rest_b)) ≡ beyond-two (s ∷ e ∷ rest_a) + beyond-two (e ∷ s ∷ rest_b)
+join-beyond : (s e : ℕ) (rest_a rest_b : List ℕ) → beyond-two ((e ∷ rest_a) ++ (s ∷ rest_b)) ≡ beyond-two (s ∷ e ∷ rest_a) + beyond-two (e ∷ s ∷ rest_b)
 join-beyond s e rest_a rest_b = rw (length-append rest_a (s ∷ rest_b)) (omega arith)
 
 abbrev Three : List ℕ → Type 0
@@ -46,25 +46,21 @@ each-join (p & q & h) (_ & _ & k) = each_++ (q & h) (p & k)
 
 pub merging : (may : JoinTest) (pieces : List (List ℕ)) → Merging pieces (merge may pieces)
 merging may pieces = record {
-  sum = λ S w back. merge-sum S (around S w) (λ l m t. around_rotated S w t) may (λ s e rest_a rest_b allowed. join S w s e rest_a rest_b (back s e)) pieces;
-  size = merge-sum naturals beyond-two (λ l m t. ap (λ (n : ℕ). n - 2) (rotated_length t)) may (λ s e rest_a rest_b allowed. join-beyond s e rest_a rest_b) pieces;
+  sum = λ S w back. merge-sum S (around S w) (λ l m t. around_rotated S w t) (join S w back) may pieces;
+  size = merge-sum naturals beyond-two (λ l m t. ap (λ (n : ℕ). n - 2) (rotated_length t)) join-beyond may pieces;
   three = merge-each may Three (λ l m t. three_rotated t) (λ s e rest_a rest_b allowed. three-join s e rest_a rest_b) pieces;
   from = λ P. merge-each may (Each P) (λ l m t. each_rotated t) (λ s e rest_a rest_b allowed. each-join) pieces;
 }
 
 -- ---- turns
 
--- the test allows no join that makes a corner turn right
-abbrev pub RefusesTurns : List Pt → JoinTest → Type 0
-RefusesTurns ps may = (s e : Corner ℕ) → may s e ≡ true → (bent ps s ≡ false) × (bent ps e ≡ false)
-
-module _ (ps : List Pt) (may : JoinTest) (refuses : RefusesTurns ps may) where
+module _ (ps : List Pt) where
   abbrev May : ℕ → ℕ → List ℕ → List ℕ → Type 0
-  May s e rest_a rest_b = may (joint s e rest_a rest_b) (joint e s rest_b rest_a) ≡ true
+  May s e rest_a rest_b = may_join ps (joint s e rest_a rest_b) (joint e s rest_b rest_a) ≡ true
 
   no-right-join : (s e r q : ℕ) (ls ms : List ℕ) → May s e (r ∷ ls) (q ∷ ms) → NoneRight ps (s ∷ e ∷ r ∷ ls) → NoneRight ps (e ∷ s ∷ q ∷ ms) → NoneRight ps ((e ∷ r ∷ ls) ++ (s ∷ q ∷ ms))
-  no-right-join s e r q ls ms allowed (_ & _ & h) (_ & _ & k) =
-      let (at_s, at_e) = refuses (joint s e (r ∷ ls) (q ∷ ms)) (joint e s (q ∷ ms) (r ∷ ls)) allowed in
+  no-right-join s e r q ls ms may (_ & _ & h) (_ & _ & k) =
+      let (at_s, at_e) = may_join_turns ps (joint s e (r ∷ ls) (q ∷ ms)) (joint e s (q ∷ ms) (r ∷ ls)) may in
       rw (corners-two e (r ∷ ls) s (q ∷ ms)) (each_++ (at_e & h) (at_s & k))
 
   Good : List ℕ → Type 0
@@ -72,9 +68,9 @@ module _ (ps : List Pt) (may : JoinTest) (refuses : RefusesTurns ps may) where
 
   good_join : (s e : ℕ) (rest_a rest_b : List ℕ) → May s e rest_a rest_b → Good (s ∷ e ∷ rest_a) → Good (e ∷ s ∷ rest_b) → Good ((e ∷ rest_a) ++ (s ∷ rest_b))
   unfolding Good
-  good_join s e [] rest_b allowed g k = absurd (omega (arith, g.0))
-  good_join s e (r ∷ ls) [] allowed g k = absurd (omega (arith, k.0))
-  good_join s e (r ∷ ls) (q ∷ ms) allowed g k = (three-join s e (r ∷ ls) (q ∷ ms) g.0 k.0, no-right-join s e r q ls ms allowed g.1 k.1)
+  good_join s e [] rest_b may g k = absurd (omega (arith, g.0))
+  good_join s e (r ∷ ls) [] may g k = absurd (omega (arith, k.0))
+  good_join s e (r ∷ ls) (q ∷ ms) may g k = (three-join s e (r ∷ ls) (q ∷ ms) g.0 k.0, no-right-join s e r q ls ms may g.1 k.1)
 
   good_triangle : (t : Corner ℕ) → NotRight ps t → Good (ring_of t)
   unfolding Good
@@ -85,8 +81,8 @@ module _ (ps : List Pt) (may : JoinTest) (refuses : RefusesTurns ps may) where
       (omega arith, (right_rotates c a b ∙ h) & h & (sym (right_rotates a b c) ∙ h) & end)
 
   -- where no given triangle turns right, no corner of a merged piece does
-  pub merge-no-right : (ts : List (Corner ℕ)) → Each (NotRight ps) ts → Each (NoneRight ps) (merge may (map ring_of ts))
+  pub merge-no-right : (ts : List (Corner ℕ)) → Each (NotRight ps) ts → Each (NoneRight ps) (merge (may_join ps) (map ring_of ts))
   unfolding Good
   merge-no-right ts h =
       each_imp (λ t g. g.1)
-      (merge-each may Good (λ l m t g. (three_rotated t g.0, each_rotated (corners_rotated t) g.1)) good_join (map ring_of ts) (each_map ring_of (each_imp good_triangle h)))
+      (merge-each (may_join ps) Good (λ l m t g. (three_rotated t g.0, each_rotated (corners_rotated t) g.1)) good_join (map ring_of ts) (each_map ring_of (each_imp good_triangle h)))

@@ -17,13 +17,13 @@ use Rattle.rules.specs.Plane.{Pt, point}
 use Rattle.rules.specs.Crossing.{odd, odd_crossings}
 use Rattle.rules.specs.Border.{on_edge, on_border}
 use Rattle.rules.specs.Cut.{cut, done}
-use Rattle.rules.specs.Merge.{JoinTest, turns_allow, merge}
+use Rattle.rules.specs.Merge.{JoinTest, may_join, merge}
 use Rattle.rules.specs.Entries.{triangles_for}
 use Rattle.rules.specs.Measure.{points, area2}
 use Rattle.rules.specs.Lines.{areas_for}
 use Rattle.rules.proofs.Pieces.{merging}
 use Rattle.rules.proofs.Measures.{edge_points, edges-points, pieces-inside, pieces_area}
-use Rattle.rules.proofs.KeptEdges.{is, passing_back, counted, EdgeOf, kept_edges}
+use Rattle.rules.proofs.KeptEdges.{counted, counted_back, EdgeOf, kept_edges}
 use Rattle.rules.proofs.Borders.{Bordered, bordered}
 use Rattle.rules.proofs.Outline.{all-points, cut_sum, cut-count, cut-indices, cut_inside, cut_area}
 use Rattle.rules.proofs.Accepted.{Accepted}
@@ -57,11 +57,10 @@ cut_plan ps ts three above e = record {
   inside = cut_inside ps ts three e;
   area = cut_area ps ts three e;
   above = subst (λ (z : ℤ). pos 0 <ℤ z) (cut_area ps ts three e) above;
-  edge_counts = λ d. cut_sum ps ts three e integers (counted d) (passing_back (is d));
+  edge_counts = λ d. cut_sum ps ts three e integers (counted d) (counted_back d);
 }
 
--- merged by any test
-pub merged_plan : (may : JoinTest) {ps : List Pt} {rings : List (List ℕ)} → Plan ps rings → Plan ps (merge may rings)
+merged_plan : (may : JoinTest) {ps : List Pt} {rings : List (List ℕ)} → Plan ps rings → Plan ps (merge may rings)
 merged_plan may {ps} {rings} plan = record {
   three = (merging may rings).three plan.three;
   below = (merging may rings).from (λ i. i < length ps) plan.below;
@@ -69,7 +68,7 @@ merged_plan may {ps} {rings} plan = record {
   inside = λ p. plan.inside p ∙ sym (pieces-inside ps may rings p);
   area = plan.area ∙ sym (pieces_area ps may rings);
   above = subst (λ (z : ℤ). pos 0 <ℤ z) (sym (pieces_area ps may rings)) plan.above;
-  edge_counts = λ d. plan.edge_counts d ∙ sym ((merging may rings).sum integers (counted d) (passing_back (is d)));
+  edge_counts = λ d. plan.edge_counts d ∙ sym ((merging may rings).sum integers (counted d) (counted_back d));
 }
 
 -- ---- the border
@@ -108,4 +107,4 @@ triangles_plan ps room a = subst (Plan ps) (sym (triangles_are a)) (cut_plan ps 
 
 pub areas_plan : Plans areas_for
 unfolding areas_for
-areas_plan ps room a = merged_plan (turns_allow ps) (triangles_plan ps room a)
+areas_plan ps room a = merged_plan (may_join ps) (triangles_plan ps room a)

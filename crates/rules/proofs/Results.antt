@@ -1,8 +1,7 @@
 -- Demand 3 over what the entries give back: the written triangles and pieces, read from lent memory. The crossing parity is what the
 -- outline test goes by off the border.
 use Prim.Native.Nat.{ℕ, ◌-◌, ◌≤◌, ◌<◌}
-use mathlib.Core.Path.{◌≡◌, sym, ◌∙◌, ap, ap₂, subst}
-use mathlib.Core.Bool.{true}
+use mathlib.Core.Path.{◌≡◌, sym, ◌∙◌, ap, subst}
 use mathlib.Core.List.{List, [], ◌∷◌, map}
 use native.Mathlib.Omega.{arith}
 use lib.ListN.{length, length-map}
@@ -13,21 +12,17 @@ use lib.Ieee.{Float}
 use Rattle.algebra.specs.Lists.{Each, end, ◌&◌, count_from}
 use Rattle.algebra.proofs.Lists.{each_all, each_map}
 use Rattle.algebra.specs.Sums.{total, integers, naturals}
-use Rattle.algebra.specs.Rings.{Edge, Corner, ring_of}
-use Rattle.algebra.proofs.Rings.{edge}
+use Rattle.algebra.specs.Rings.{Corner, ring_of}
 use Rattle.rules.specs.Plane.{Pt, point}
 use Rattle.rules.specs.Grid.{points_of}
 use Rattle.rules.specs.Crossing.{odd, odd_crossings}
-use Rattle.rules.specs.Merge.{JoinTest, bolted, may_join, merge}
+use Rattle.rules.specs.Merge.{may_join, merge}
 use Rattle.rules.specs.Layout.{triples}
-use Rattle.rules.specs.Refusals.{merger_checks}
-use Rattle.rules.specs.Entries.{Cutting, triangles_of, triangles_for, cutter, merger_by, merger, unmarked_merger, written_triangles, written_pieces}
+use Rattle.rules.specs.Entries.{Cutting, triangles_of, triangles_for, cutter, merger, written_triangles, written_pieces}
 use Rattle.rules.specs.Measure.{points, area2, NotRight, NotClockwise, NoneRight, Apart}
 use Rattle.rules.proofs.Turns.{turn-edges}
 use Rattle.rules.proofs.Neighbours.{Met}
 use Rattle.rules.proofs.Pieces.{merging, merge-no-right}
-use Rattle.rules.proofs.KeptEdges.{EdgeOf}
-use Rattle.rules.proofs.Joints.{may_join_turns, unmarked_test, often, bolted-back, joints_kept, often_stands, stands_often}
 use Rattle.rules.proofs.Measures.{pieces-inside, pieces_area}
 use Rattle.rules.proofs.Outline.{cut-count, cut-indices, cut_inside, cut_area, cut_neighbours}
 use Rattle.rules.proofs.Layouts.{triples-each, Triangles, those, triples_are}
@@ -111,34 +106,34 @@ not_clockwise ps [] h = end
 not_clockwise ps (t ∷ ts) (p & h) =
     (ap (λ (z : ℤ). lt_z z (pos 0)) (turn-edges (point ps t.before) (point ps t.at) (point ps t.after)) ∙ p) & not_clockwise ps ts h
 
-module _ (cs : List Float) (marks triangles out lens : List ℕ) (ok : (merger cs marks triangles out lens).number ≡ 0) where
+module _ (cs : List Float) (triangles out lens : List ℕ) (ok : (merger cs triangles out lens).number ≡ 0) where
   abbrev ps : List Pt
   ps = points_of cs
 
   abbrev pieces : List (List ℕ)
-  pieces = written_pieces (merger cs marks triangles out lens)
+  pieces = written_pieces (merger cs triangles out lens)
 
-  pub merge_accepted : InRange cs (length marks) triangles (length out) (length lens)
-  merge_accepted = in_range cs (length marks) triangles (length out) (length lens) (sym (merger-number cs marks triangles out lens) ∙ ok)
+  pub merge_accepted : InRange cs triangles (length out) (length lens)
+  merge_accepted = in_range cs triangles (length out) (length lens) (sym (merger-number cs triangles out lens) ∙ ok)
 
-  written : pieces ≡ merge (may_join ps marks) (triples triangles)
-  written = merger-written cs marks triangles out lens ok
+  written : pieces ≡ merge (may_join ps) (triples triangles)
+  written = merger-written cs triangles out lens ok
 
   -- merging any accepted list keeps the parity at every grid point, the sum of areas and the sum of (corners - 2)
   pub merged_inside : (p : Pt) → odd (λ t. odd_crossings p (points ps t)) pieces ≡ odd (λ t. odd_crossings p (points ps t)) (triples triangles)
-  merged_inside p = rw written (pieces-inside ps (may_join ps marks) (triples triangles) p)
+  merged_inside p = rw written (pieces-inside ps (may_join ps) (triples triangles) p)
 
   pub merged_area : total integers (λ t. area2 (points ps t)) pieces ≡ total integers (λ t. area2 (points ps t)) (triples triangles)
-  merged_area = rw written (pieces_area ps (may_join ps marks) (triples triangles))
+  merged_area = rw written (pieces_area ps (may_join ps) (triples triangles))
 
   pub merged_size : total naturals (λ t. length t - 2) pieces ≡ total naturals (λ t. length t - 2) (triples triangles)
-  merged_size = rw written (merging (may_join ps marks) (triples triangles)).size
+  merged_size = rw written (merging (may_join ps) (triples triangles)).size
 
   pub merged_indices : Each (Each (λ i. i < length ps)) pieces
-  merged_indices = rw written ((merging (may_join ps marks) (triples triangles)).from (λ i. i < length ps) (triples-each merge_accepted.below))
+  merged_indices = rw written ((merging (may_join ps) (triples triangles)).from (λ i. i < length ps) (triples-each merge_accepted.below))
 
   pub merged_three : Each (λ t. 3 ≤ length t) pieces
-  merged_three = rw written ((merging (may_join ps marks) (triples triangles)).three (threes (triples_are triangles)))
+  merged_three = rw written ((merging (may_join ps) (triples triangles)).three (threes (triples_are triangles)))
     where
       threes : {l : List (List ℕ)} → Triangles l → Each (λ t. 3 ≤ length t) l
       threes (those ts) = each_map ring_of (each_all (λ t. lit≤ tt) ts)
@@ -147,27 +142,5 @@ module _ (cs : List Float) (marks triangles out lens : List ℕ) (ok : (merger c
   pub merged_turns : Each (NotClockwise ps) (triples triangles) → Each (NoneRight ps) pieces
   merged_turns h = rw written (go (triples_are triangles) h)
     where
-      go : {l : List (List ℕ)} → Triangles l → Each (NotClockwise ps) l → Each (NoneRight ps) (merge (may_join ps marks) l)
-      go (those ts) k = merge-no-right ps (may_join ps marks) (may_join_turns ps marks) ts (not_right ps ts k)
-
-  -- an edge with both ends marked stands in the pieces as often as in the given triangles
-  pub merged_joints : (d : Edge ℕ) → bolted marks d.from d.to ≡ true → often d pieces ≡ often d (triples triangles)
-  merged_joints d both = ap (often d) written ∙ joints_kept marks d both ps (triples triangles)
-
-  -- so a joint between two of them stays: the edge and its reverse are edges of the pieces
-  pub joint-stays :
-      (s e : ℕ) → bolted marks s e ≡ true → EdgeOf (triples triangles) (edge s e) → EdgeOf (triples triangles) (edge e s)
-      → EdgeOf pieces (edge s e) × EdgeOf pieces (edge e s)
-  joint-stays s e both there back =
-      (stays (edge s e) both there, stays (edge e s) (bolted-back marks s e ∙ both) back)
-    where
-      stays : (d : Edge ℕ) → bolted marks d.from d.to ≡ true → EdgeOf (triples triangles) d → EdgeOf pieces d
-      stays d k h = often_stands d pieces (subst (λ (n : ℕ). 0 < n) (sym (merged_joints d k)) (stands_often d (triples triangles) h))
-
--- with a mark for each point and none set, all that comes back is what comes back without marks
-pub none_set :
-    (cs : List Float) (marks triangles out lens : List ℕ) → length marks ≡ length (points_of cs) → Each (λ m. m ≡ 0) marks
-    → merger cs marks triangles out lens ≡ unmarked_merger cs triangles out lens
-unfolding merger unmarked_merger
-none_set cs marks triangles out lens n none =
-    ap₂ (λ (may : JoinTest) (k : ℕ). merger_by may (merger_checks cs k triangles (length out) (length lens)) triangles out lens) (unmarked_test (points_of cs) none) n
+      go : {l : List (List ℕ)} → Triangles l → Each (NotClockwise ps) l → Each (NoneRight ps) (merge (may_join ps) l)
+      go (those ts) k = merge-no-right ps ts (not_right ps ts k)

@@ -273,6 +273,6 @@ module _ (may : JoinTest) (a : List ℕ) where
 
 -- an accepted merge has written what the steps from the given triangles end with
 pub written-steps :
-    (cs : List Float) (marks triangles out lens : List ℕ) → (merger cs marks triangles out lens).number ≡ 0
-    → Ends (may_join (points_of cs) marks) (begin (triples triangles)) (enough_steps (triples triangles)) (written_pieces (merger cs marks triangles out lens))
-written-steps cs marks triangles out lens ok = rw (merger-written cs marks triangles out lens ok) (steps-merge (may_join (points_of cs) marks) (triples triangles))
+    (cs : List Float) (triangles out lens : List ℕ) → (merger cs triangles out lens).number ≡ 0
+    → Ends (may_join (points_of cs)) (begin (triples triangles)) (enough_steps (triples triangles)) (written_pieces (merger cs triangles out lens))
+written-steps cs triangles out lens ok = rw (merger-written cs triangles out lens ok) (steps-merge (may_join (points_of cs)) (triples triangles))

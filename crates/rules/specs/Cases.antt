@@ -1,7 +1,7 @@
 -- Document 01, "Twelve small cases", as one table: what is lent to which entry, and everything that comes back.
 -- Behind the twelve, cases for "Slips that look right", the edge of the grid, the choice of the ear, the joins, each refusal and their order,
 -- and for the requests.
-use Rattle.std.specs.Prelude.{ℕ, zero, suc, ◌/◌, ◌^◌, ◌≡◌, Bool, true, false, List, [], ◌∷◌, ◌++◌, map, ℤ, pos, negsuc, neg_ℤ, length, replicate, Float}
+use Rattle.std.specs.Prelude.{ℕ, zero, suc, ◌^◌, ◌≡◌, Bool, true, false, List, [], ◌∷◌, ◌++◌, map, ℤ, pos, negsuc, neg_ℤ, replicate, Float}
 use Rattle.std.specs.Float.Ieee as Ieee
 use Rattle.std.specs.Float.{nan, inf, fin, binary32}
 use Rattle.rules.specs.Grid.{point_of, points_of}
@@ -14,7 +14,7 @@ use Rattle.rules.specs.Entries.{Cutting, Merging, Asking, Hulling, cutter, merge
 -- what is lent and everything that comes back; `asking_both_at` has the outline test's answer, then the convex test's
 pub data Case : Type 0 where
   cutting : List Float → List ℕ → Cutting → Case
-  merging : List Float → List ℕ → List ℕ → List ℕ → List ℕ → Merging → Case
+  merging : List Float → List ℕ → List ℕ → List ℕ → Merging → Case
   asking-at : Float → Float → List Float → Asking → Case
   asking_both_at : Float → Float → List Float → Asking → Asking → Case
   crossing : Float → Float → List Float → Bool → Case
@@ -24,7 +24,7 @@ pub data Case : Type 0 where
 
 abbrev pub Holds : Case → Type 0
 Holds (cutting cs indices r) = cutter cs indices ≡ r
-Holds (merging cs marks triangles indices lengths r) = merger cs marks triangles indices lengths ≡ r
+Holds (merging cs triangles indices lengths r) = merger cs triangles indices lengths ≡ r
 Holds (asking-at x y cs r) = point_in_poly2d x y cs ≡ r
 Holds (asking_both_at x y cs r s) = ◌≡◌ {A = Asking × Asking} (point_in_poly2d x y cs, point_in_convex_poly2d x y cs) (r, s)
 Holds (crossing x y cs r) = odd_crossings (point_of x y) (points_of cs) ≡ r
@@ -108,23 +108,13 @@ cut_into cs room count indices = cutting cs (nines room) (record { number = 0; c
 abbrev cut_refused : List Float → ℕ → ℕ → Case
 cut_refused cs room n = cutting cs (nines room) (record { number = n; count = 0; indices = nines room })
 
-abbrev marked_into : List Float → List ℕ → List ℕ → ℕ → ℕ → ℕ → List ℕ → List ℕ → Case
-marked_into cs marks triangles room room_for_lengths count indices lengths =
-    merging cs marks triangles (nines room) (nines room_for_lengths) (record { number = 0; count = count; indices = indices; lengths = lengths })
-
-abbrev marked_refused : List Float → List ℕ → List ℕ → ℕ → ℕ → ℕ → Case
-marked_refused cs marks triangles room room_for_lengths n =
-    merging cs marks triangles (nines room) (nines room_for_lengths) (record { number = n; count = 0; indices = nines room; lengths = nines room_for_lengths })
-
--- a mark for each point, and none is set
-abbrev unmarked : List Float → List ℕ
-unmarked cs = replicate (length cs / 2) 0
-
 abbrev merged_into : List Float → List ℕ → ℕ → ℕ → ℕ → List ℕ → List ℕ → Case
-merged_into cs = marked_into cs (unmarked cs)
+merged_into cs triangles room room_for_lengths count indices lengths =
+    merging cs triangles (nines room) (nines room_for_lengths) (record { number = 0; count = count; indices = indices; lengths = lengths })
 
 abbrev merge_refused : List Float → List ℕ → ℕ → ℕ → ℕ → Case
-merge_refused cs = marked_refused cs (unmarked cs)
+merge_refused cs triangles room room_for_lengths n =
+    merging cs triangles (nines room) (nines room_for_lengths) (record { number = n; count = 0; indices = nines room; lengths = nines room_for_lengths })
 
 abbrev answered : Position → Asking
 answered a = record { number = 0; answer = a }
@@ -144,9 +134,9 @@ hull_refused cs room n = hulling cs (nines room) (record { number = n; count = 0
 abbrev pub table : List Case
 table =
     cutting P (nines 6) (record { number = 0; count = 2; indices = 2 ∷ 3 ∷ 0 ∷ 2 ∷ 0 ∷ 1 ∷ [] })  -- K1
-    ∷ merging P (unmarked P) (2 ∷ 3 ∷ 0 ∷ 2 ∷ 0 ∷ 1 ∷ []) (nines 6) (nines 2) (record { number = 0; count = 1; indices = 2 ∷ 3 ∷ 0 ∷ 1 ∷ 9 ∷ 9 ∷ []; lengths = 4 ∷ 9 ∷ [] })  -- K2
+    ∷ merging P (2 ∷ 3 ∷ 0 ∷ 2 ∷ 0 ∷ 1 ∷ []) (nines 6) (nines 2) (record { number = 0; count = 1; indices = 2 ∷ 3 ∷ 0 ∷ 1 ∷ 9 ∷ 9 ∷ []; lengths = 4 ∷ 9 ∷ [] })  -- K2
     ∷ cutting Q (nines 6) (record { number = 0; count = 2; indices = 1 ∷ 2 ∷ 3 ∷ 3 ∷ 0 ∷ 1 ∷ [] })  -- K3
-    ∷ merging Q (unmarked Q) (1 ∷ 2 ∷ 3 ∷ 3 ∷ 0 ∷ 1 ∷ []) (nines 6) (nines 2) (record { number = 0; count = 2; indices = 1 ∷ 2 ∷ 3 ∷ 3 ∷ 0 ∷ 1 ∷ []; lengths = 3 ∷ 3 ∷ [] })  -- K4
+    ∷ merging Q (1 ∷ 2 ∷ 3 ∷ 3 ∷ 0 ∷ 1 ∷ []) (nines 6) (nines 2) (record { number = 0; count = 2; indices = 1 ∷ 2 ∷ 3 ∷ 3 ∷ 0 ∷ 1 ∷ []; lengths = 3 ∷ 3 ∷ [] })  -- K4
     ∷ cutting T (nines 4) (record { number = 0; count = 1; indices = 2 ∷ 0 ∷ 1 ∷ 9 ∷ [] })  -- K5
     ∷ cutting P-backwards (nines 6) (record { number = 13; count = 0; indices = nines 6 })  -- K6, by request M-105
     ∷ asking-at (f 0) (f 2) P (answered border)  -- K7, and the next three, by request M-106
@@ -283,25 +273,6 @@ table =
     ∷ merge_refused P (0 ∷ 1 ∷ 4 ∷ []) 2 0 9
     ∷ merge_refused P (2 ∷ 3 ∷ 0 ∷ 2 ∷ 0 ∷ 1 ∷ []) 5 2 6
     ∷ merge_refused P (2 ∷ 3 ∷ 0 ∷ 2 ∷ 0 ∷ 1 ∷ []) 6 1 6
-    -- request M-108, no join across an edge with both ends marked, by any numbers but zero; one end, or the corners beside it, do not keep it
-    ∷ marked_into P (1 ∷ 0 ∷ 1 ∷ 0 ∷ []) (2 ∷ 3 ∷ 0 ∷ 2 ∷ 0 ∷ 1 ∷ []) 6 2 2 (2 ∷ 3 ∷ 0 ∷ 2 ∷ 0 ∷ 1 ∷ []) (3 ∷ 3 ∷ [])
-    ∷ marked_into P (256 ∷ 0 ∷ 4294967295 ∷ 0 ∷ []) (2 ∷ 3 ∷ 0 ∷ 2 ∷ 0 ∷ 1 ∷ []) 6 2 2 (2 ∷ 3 ∷ 0 ∷ 2 ∷ 0 ∷ 1 ∷ []) (3 ∷ 3 ∷ [])
-    ∷ marked_into P (1 ∷ 1 ∷ 0 ∷ 1 ∷ []) (2 ∷ 3 ∷ 0 ∷ 2 ∷ 0 ∷ 1 ∷ []) 6 2 1 (2 ∷ 3 ∷ 0 ∷ 1 ∷ 9 ∷ 9 ∷ []) (4 ∷ 9 ∷ [])
-    ∷ marked_into P (0 ∷ 1 ∷ 1 ∷ 1 ∷ []) (2 ∷ 3 ∷ 0 ∷ 2 ∷ 0 ∷ 1 ∷ []) 6 2 1 (2 ∷ 3 ∷ 0 ∷ 1 ∷ 9 ∷ 9 ∷ []) (4 ∷ 9 ∷ [])
-    -- the steps go on to the next corner, and to the next piece
-    ∷ marked_into hexagon (0 ∷ 1 ∷ 0 ∷ 1 ∷ 0 ∷ 0 ∷ []) (4 ∷ 1 ∷ 3 ∷ 1 ∷ 4 ∷ 0 ∷ 3 ∷ 1 ∷ 2 ∷ []) 9 3 2 (1 ∷ 3 ∷ 4 ∷ 0 ∷ 3 ∷ 1 ∷ 2 ∷ 9 ∷ 9 ∷ []) (4 ∷ 3 ∷ 9 ∷ [])
-    ∷ marked_into hexagon (0 ∷ 1 ∷ 0 ∷ 1 ∷ 0 ∷ 0 ∷ []) (3 ∷ 1 ∷ 2 ∷ 4 ∷ 1 ∷ 3 ∷ 1 ∷ 4 ∷ 0 ∷ []) 9 3 2 (3 ∷ 1 ∷ 2 ∷ 1 ∷ 3 ∷ 4 ∷ 0 ∷ 9 ∷ 9 ∷ []) (3 ∷ 4 ∷ 9 ∷ [])
-    -- another number of marks than of points is 1: too few, too many, none; and before 3, 4, 8, 10, 9 and 6
-    ∷ marked_refused P (0 ∷ 0 ∷ 0 ∷ []) (2 ∷ 3 ∷ 0 ∷ []) 3 1 1
-    ∷ marked_refused P (nines 5) (2 ∷ 3 ∷ 0 ∷ []) 3 1 1
-    ∷ marked_refused [] (0 ∷ []) [] 0 0 1
-    ∷ marked_refused (whole (0 ∷ 0 ∷ 4 ∷ [])) (0 ∷ 0 ∷ []) [] 0 0 1
-    ∷ marked_refused (replicate 1026 (f 0)) (nines 512) [] 2 2 1
-    ∷ marked_refused (f 0 ∷ nan ∷ []) [] [] 1 1 1
-    ∷ marked_refused P [] (0 ∷ []) 3 1 1
-    ∷ marked_refused P [] (replicate 1533 0) 1533 511 1
-    ∷ marked_refused P [] (0 ∷ 1 ∷ 4 ∷ []) 3 1 1
-    ∷ marked_refused P [] (2 ∷ 3 ∷ 0 ∷ []) 2 0 1
     -- both point tests, of which the first answer is the outline test's: inside and outside, as request M-106 has them, at corners and on the border
     ∷ both_answered (f 2) (f 2) P inside inside
     ∷ both_answered (f 5) (f 2) P outside outside

@@ -6,10 +6,10 @@ use Rattle.rules.specs.Plane.{Pt}
 use Rattle.rules.specs.Grid.{point_of, points_of}
 use Rattle.rules.specs.Border.{Position, outside, position, convex_position}
 use Rattle.rules.specs.Cut.{Cut, stuck, done, cut}
-use Rattle.rules.specs.Merge.{JoinTest, turns_allow, may_join, merge}
+use Rattle.rules.specs.Merge.{may_join, merge}
 use Rattle.rules.specs.Layout.{flatten, split, triples, over}
 use Rattle.rules.specs.Hull.{hull}
-use Rattle.rules.specs.Refusals.{Row, first_refusal, cutter_checks, merger_checks, point_test_checks, hull_checks}
+use Rattle.rules.specs.Refusals.{first_refusal, cutter_checks, merger_checks, point_test_checks, hull_checks}
 
 -- what is answered where no refusal applies, and what is refused by a number otherwise
 abbrev pub unless : {R : Type 0} → ℕ → (ℕ → R) → R → R
@@ -54,26 +54,13 @@ pub record Merging : Type 0 where
   pub indices : List ℕ
   pub lengths : List ℕ
 
--- by a test whether pieces may be joined, behind these refusals
-unfoldable pub merger_by : JoinTest → List Row → List ℕ → List ℕ → List ℕ → Merging
-unfolding first_refusal merge triples flatten
-merger_by may rows triangles indices lengths =
-    let pieces = merge may (triples triangles) in
-    unless (first_refusal rows)
+unfoldable pub merger : List Float → List ℕ → List ℕ → List ℕ → Merging
+unfolding first_refusal merger_checks may_join merge triples flatten
+merger cs triangles indices lengths =
+    let pieces = merge (may_join (points_of cs)) (triples triangles) in
+    unless (first_refusal (merger_checks cs triangles (length indices) (length lengths)))
     (λ n. record { number = n; count = 0; indices = indices; lengths = lengths })
     (record { number = 0; count = length pieces; indices = over (flatten pieces) indices; lengths = over (map length pieces) lengths })
-
--- of points with a mark each
-unfoldable pub merger : List Float → List ℕ → List ℕ → List ℕ → List ℕ → Merging
-unfolding may_join merger_checks merger_by
-merger cs marks triangles indices lengths =
-    merger_by (may_join (points_of cs) marks) (merger_checks cs (length marks) triangles (length indices) (length lengths)) triangles indices lengths
-
--- of points without marks: the refusals are those of as many marks as points
-unfoldable pub unmarked_merger : List Float → List ℕ → List ℕ → List ℕ → Merging
-unfolding turns_allow merger_checks merger_by
-unmarked_merger cs triangles indices lengths =
-    merger_by (turns_allow (points_of cs)) (merger_checks cs (length (points_of cs)) triangles (length indices) (length lengths)) triangles indices lengths
 
 -- the pieces that a merge has written, read back
 abbrev pub written_pieces : Merging → List (List ℕ)

@@ -7,7 +7,7 @@ use Rattle.algebra.specs.Lists.{any}
 use Rattle.rules.specs.Limits.{grid_edge, most_points}
 use Rattle.rules.specs.Plane.{Pt}
 use Rattle.rules.specs.Grid.{points_of}
-use Rattle.rules.specs.Merge.{turns_allow, merge}
+use Rattle.rules.specs.Merge.{may_join, merge}
 use Rattle.rules.specs.Layout.{over}
 use Rattle.rules.specs.Refusals.{Row, ◌gives◌, first_refusal, equal_neighbours, area_not_above_zero, no_ear, count_checks, outline_checks, ring_checks}
 use Rattle.rules.specs.Entries.{unless, triangles_for}
@@ -89,10 +89,10 @@ polygon_writer cs out = writing (polygon_checks cs (length out)) (polygon_line (
 
 -- ---- filling
 
--- the areas of an outline: the merge of the cut. A line marks no corner
+-- the areas of an outline: the merge of the cut
 unfoldable pub areas_for : List Pt → List (List ℕ)
-unfolding turns_allow merge triangles_for
-areas_for ps = merge (turns_allow ps) (triangles_for ps)
+unfolding may_join merge triangles_for
+areas_for ps = merge (may_join ps) (triangles_for ps)
 
 -- a corner with a number that is not from -1024 to 1024
 abbrev pub off_corner : Pt → Bool

@@ -1,6 +1,6 @@
--- Document 01, "The merger's steps", with request M-108's marks. A piece is a ring of corner numbers. Where a corner of A fails, the steps only go on to
+-- Document 01, "The merger's steps". A piece is a ring of corner numbers. Where a corner of A fails, the steps only go on to
 -- A's next corner; so A's next join is at its first corner that has one, and a piece with none is finished.
-use Rattle.std.specs.Prelude.{ℕ, zero, suc, ◌-◌, Bool, cond, not, ◌&&◌, ◌||◌, List, [], ◌∷◌, ◌++◌, eqb, length, get_or}
+use Rattle.std.specs.Prelude.{ℕ, zero, suc, ◌-◌, Bool, cond, not, ◌&&◌, ◌||◌, List, [], ◌∷◌, ◌++◌, eqb, length}
 use Rattle.std.proofs.Math.Option.{Option, none, some}
 use Rattle.algebra.specs.Lists.{or_else, first}
 use Rattle.algebra.specs.Rings.{Corner, last_of, first_of, begun_at, rotations}
@@ -35,29 +35,16 @@ mate e s passed (b ∷ more) = or_else (with (first (follows e s) (rotations b))
 abbrev pub joint : ℕ → ℕ → List ℕ → List ℕ → Corner ℕ
 joint s e rest_a rest_b = record { before = last_of e rest_a; at = s; after = first_of e rest_b }
 
--- a test whether two pieces may be joined, by the corners that the join makes at s and at e, the ends of the edge between the pieces
+-- a test whether two pieces may be joined, by the corners that the join makes at s and at e
 abbrev pub JoinTest : Type 0
 JoinTest = Corner ℕ → Corner ℕ → Bool
 
 abbrev pub bent : List Pt → Corner ℕ → Bool
 bent ps c = turns_right ps c.before c.at c.after
 
--- the join is refused if one of the two turns right: the whole test where no point is marked
-unfoldable pub turns_allow : List Pt → JoinTest
-turns_allow ps s e = not (bent ps s || bent ps e)
-
--- request M-108: any number but zero marks a point
-abbrev pub marked : List ℕ → ℕ → Bool
-marked marks i = not (eqb (get_or marks i 0) 0)
-
--- a joint that must stay: an edge whose two ends are both marked
-unfoldable pub bolted : List ℕ → ℕ → ℕ → Bool
-bolted marks s e = marked marks s && marked marks e
-
--- no join is made across such an edge, and none is refused for it elsewhere
-unfoldable pub may_join : List Pt → List ℕ → JoinTest
-unfolding bolted turns_allow
-may_join ps marks s e = not (bolted marks s.at e.at) && turns_allow ps s e
+-- the join is refused if one of the two turns right
+unfoldable pub may_join : List Pt → JoinTest
+may_join ps s e = not (bent ps s || bent ps e)
 
 -- A's corners from e up to the one before s, then B's from s up to the one before e
 unfoldable pub join_with : JoinTest → ℕ → ℕ → List ℕ → Option Part → Option Part

@@ -57,16 +57,13 @@ out_of_range n indices = any (λ i. not (ltb i n)) indices
 
 -- ---- an outline of `least` to `most` points
 
--- what the number of its points decides
-abbrev pub size_checks : ℕ → ℕ → ℕ → List Row
-size_checks least most points =
-    ltb points least gives 2
-    ∷ ltb most points gives 3
-    ∷ []
-
--- and the number of its coordinates, two of which are a point
+-- what the number of its coordinates decides, two of which are a point
 unfoldable pub count_checks : ℕ → ℕ → ℕ → List Row
-count_checks least most coordinates = eqb (coordinates % 2) 1 gives 1 ∷ size_checks least most (coordinates / 2)
+count_checks least most coordinates =
+    eqb (coordinates % 2) 1 gives 1
+    ∷ ltb (coordinates / 2) least gives 2
+    ∷ ltb most (coordinates / 2) gives 3
+    ∷ []
 
 unfoldable pub outline_checks : ℕ → ℕ → List Float → List Row
 unfolding off_grid count_checks
@@ -91,19 +88,6 @@ unfoldable pub cutter_checks : List Float → ℕ → List Row
 unfolding before_cutting no_ear
 cutter_checks cs room = before_cutting cs room ++ (no_ear (points_of cs) gives 7 ∷ [])
 
--- request M-108: the number of coordinates is odd, or that of the marks is not that of the points
-abbrev pub unmatched : ℕ → ℕ → Bool
-unmatched coordinates marks = eqb (coordinates % 2) 1 || not (eqb marks (coordinates / 2))
-
--- what the numbers of coordinates and of marks decide. Of 0 points or more, 2 is never given
-unfoldable pub marked_count_checks : ℕ → ℕ → List Row
-marked_count_checks coordinates marks = unmatched coordinates marks gives 1 ∷ size_checks 0 most_points (coordinates / 2)
-
--- of points with so many marks
-unfoldable pub marked_checks : List Float → ℕ → List Row
-unfolding off_grid marked_count_checks
-marked_checks cs marks = marked_count_checks (length cs) marks ++ (off_grid cs gives 4 ∷ [])
-
 -- what the number of a triangle list's indices decides
 unfoldable pub list_checks : ℕ → List Row
 list_checks indices =
@@ -111,10 +95,10 @@ list_checks indices =
     ∷ ltb most_triangles (indices / 3) gives 10
     ∷ []
 
--- the merger's rows that need no look at the triangles
-unfoldable pub before_triangles : List Float → ℕ → ℕ → List Row
-unfolding marked_checks list_checks
-before_triangles cs marks indices = marked_checks cs marks ++ list_checks indices
+-- the merger's rows that need no look at the triangles. Of 0 points or more, 2 is never given
+unfoldable pub before_triangles : List Float → ℕ → List Row
+unfolding outline_checks list_checks
+before_triangles cs indices = outline_checks 0 most_points cs ++ list_checks indices
 
 -- of the triangles, and of room for them
 abbrev pub triangle_checks : List Pt → List ℕ → ℕ → ℕ → List Row
@@ -123,10 +107,9 @@ triangle_checks ps triangles room room_for_lengths =
     ∷ short_to_merge triangles room room_for_lengths gives 6
     ∷ []
 
-unfoldable pub merger_checks : List Float → ℕ → List ℕ → ℕ → ℕ → List Row
+unfoldable pub merger_checks : List Float → List ℕ → ℕ → ℕ → List Row
 unfolding before_triangles out_of_range
-merger_checks cs marks triangles room room_for_lengths =
-    before_triangles cs marks (length triangles) ++ triangle_checks (points_of cs) triangles room room_for_lengths
+merger_checks cs triangles room room_for_lengths = before_triangles cs (length triangles) ++ triangle_checks (points_of cs) triangles room room_for_lengths
 
 unfoldable pub point_test_checks : Float → Float → List Float → List Row
 unfolding outline_checks

@@ -1,7 +1,7 @@
 // One run: an outline cut and merged, and its triangles and areas held against it.
 use crate::rings::{area, ask, front, together};
 use ear_clipping::triangulate_ear_clipping;
-use entries::{MOST_TRIANGLES, no_floats, no_marks, threes, wide, zeros};
+use entries::{MOST_TRIANGLES, no_floats, threes, wide, zeros};
 use hertel_mehlhorn::hertel_mehlhorn_idx;
 use std::io;
 use wkt::read::read_polygon;
@@ -144,9 +144,7 @@ fn plan(rt: &impl Print, coords: &[f32]) -> io::Result<()> {
     let n = wide(cut.count);
     let list = words(&triangles, 3 * n);
     held(rt, coords, b" triangles, ", list, words(&threes(), n))?;
-    let marks = no_marks();
-    let unmarked = words(&marks, coords.len() / 2);
-    let merged = hertel_mehlhorn_idx(coords, unmarked, list, &mut areas, &mut lengths);
+    let merged = hertel_mehlhorn_idx(coords, list, &mut areas, &mut lengths);
     held(
         rt,
         coords,

@@ -94,8 +94,6 @@ struct Case<'a> {
     floats: Vec<f32>,
     bytes: Vec<u8>,
     points: Vec<Vector>,
-    /// Zero for each corner.
-    marks: Vec<u8>,
     triangles: Vec<u8>,
     indices: Vec<u8>,
     lengths: Vec<u8>,
@@ -110,8 +108,7 @@ impl<'a> Case<'a> {
         let mut triangles = vec![0u8; 12 * (n - 2)];
         let answer = ours::triangulate_ear_clipping(&bytes, &mut triangles);
         assert_eq!(answer.number, 0, "{kind} of {n} corners is cut");
-        let (marks, indices, lengths) = (vec![0; 4 * n], vec![0; 12 * (n - 2)], vec![0; 4 * (n - 2)]);
-        Case { kind, n, floats, bytes, points, marks, triangles, indices, lengths }
+        Case { kind, n, floats, bytes, points, triangles, indices: vec![0; 12 * (n - 2)], lengths: vec![0; 4 * (n - 2)] }
     }
 
     fn row(&self, job: &str, times: [f64; 2]) {
@@ -132,8 +129,7 @@ impl<'a> Case<'a> {
     fn merge(&mut self) {
         let given: Vec<[u32; 3]> = words(&self.triangles).chunks_exact(3).map(|c| [c[0], c[1], c[2]]).collect();
         let mut ours = || {
-            let (bytes, marks, triangles) = (black_box(&self.bytes), black_box(&self.marks), black_box(&self.triangles));
-            black_box(ours::hertel_mehlhorn_idx(bytes, marks, triangles, &mut self.indices, &mut self.lengths));
+            black_box(ours::hertel_mehlhorn_idx(black_box(&self.bytes), black_box(&self.triangles), &mut self.indices, &mut self.lengths));
         };
         let mut theirs = || {
             black_box(parry::hertel_mehlhorn_idx(black_box(&self.points), black_box(&given)));
@@ -144,10 +140,10 @@ impl<'a> Case<'a> {
 
     /// From the outline to its areas, beside CGAL's partitions of it.
     fn cut_and_merge(&mut self) {
-        let areas = ours::hertel_mehlhorn_idx(&self.bytes, &self.marks, &self.triangles, &mut self.indices, &mut self.lengths).count;
+        let areas = ours::hertel_mehlhorn_idx(&self.bytes, &self.triangles, &mut self.indices, &mut self.lengths).count;
         let mut ours = || {
             black_box(ours::triangulate_ear_clipping(black_box(&self.bytes), &mut self.triangles));
-            black_box(ours::hertel_mehlhorn_idx(&self.bytes, &self.marks, &self.triangles, &mut self.indices, &mut self.lengths));
+            black_box(ours::hertel_mehlhorn_idx(&self.bytes, &self.triangles, &mut self.indices, &mut self.lengths));
         };
         let mut theirs = || {
             let triangles = parry::triangulate_ear_clipping(black_box(&self.points)).expect("the outline is cut");

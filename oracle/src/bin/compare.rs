@@ -25,6 +25,6 @@ fn main() {
         side.fill(&line, lines::room(&mut r, &line));
     }
     println!("oracle: {} random inputs from seed {seed}: no difference", side.inputs);
-    println!("oracle: of them {} cuts accepted, {} where a point is passed twice, {}, {} spots on a border, and {} lines filled", side.accepted, side.twice, side.joints, side.border, side.filled);
+    println!("oracle: of them {} cuts accepted, {} where a point is passed twice, {} spots on a border, and {} lines filled", side.accepted, side.twice, side.border, side.filled);
     println!("oracle: and {}", side.hulls);
 }

@@ -1,7 +1,7 @@
 //! list: a sample of inputs with what must come back, and some roots, for the program `replay`. See crates/replay/LIST.md.
 use oracle::clouds;
-use oracle::expected::{triangulate_ear_clipping, MOST};
-use oracle::inputs::{random_marks, subset_marks, Side};
+use oracle::expected::MOST;
+use oracle::inputs::Side;
 use oracle::lent::{bytes_of, bytes_of_floats};
 use oracle::random::Random;
 use oracle::records::Records;
@@ -9,17 +9,12 @@ use oracle::shapes::{convex, coords, counter_clockwise, Outline, KINDS};
 use oracle::slots;
 use std::io::Write;
 
-/// Zero for each point.
-fn unmarked(coords: &[u8]) -> Vec<u8> {
-    vec![0; 4 * (coords.len() / 8)]
-}
-
 /// An outline cut with this much room to spare, merged, and asked at a corner and beside it.
 fn outline(side: &mut impl Side, floats: &[f32], spare: isize) {
     let bytes = bytes_of_floats(floats);
     let room = (6 * floats.len() as isize - 24 + spare).max(0) as usize;
     let triangles = side.cut(&bytes, room).unwrap_or_default();
-    side.merge(&bytes, &unmarked(&bytes), &triangles, triangles.len() + 5, triangles.len() / 3 + 2);
+    side.merge(&bytes, &triangles, triangles.len() + 5, triangles.len() / 3 + 2);
     if floats.len() >= 2 {
         side.ask(floats[0], floats[1], &bytes);
         side.ask(floats[0] + 1.0, floats[1], &bytes);
@@ -44,10 +39,10 @@ fn edges(list: &mut impl Side) {
     let bytes = bytes_of_floats(&square);
     for triangles in [&[0u32, 1][..], &[0, 1, 4], &[0, 1, 2, 0], &[0, 1, 2, 2, 1, 0], &[1, 1, 1, 1, 1, 1], &[u32::MAX, 0, 0]] {
         let given = bytes_of(triangles);
-        list.merge(&bytes, &unmarked(&bytes), &given, given.len(), given.len() / 3);
-        list.merge(&bytes, &unmarked(&bytes), &given, given.len().saturating_sub(1), given.len() / 3);
+        list.merge(&bytes, &given, given.len(), given.len() / 3);
+        list.merge(&bytes, &given, given.len().saturating_sub(1), given.len() / 3);
     }
-    list.merge(&bytes, &unmarked(&bytes), &[0; 4 * 1533], 0, 0);
+    list.merge(&bytes, &[0; 4 * 1533], 0, 0);
     list.ask(1.0, 1.0, &[0; 4 * 1026]);
 }
 
@@ -170,95 +165,6 @@ fn hulls(list: &mut impl Side) {
     }
 }
 
-const SQUARE: [(i32, i32); 4] = [(0, 0), (4, 0), (4, 4), (0, 4)];
-
-/// Its triangles.
-const CUT: [u32; 6] = [2, 3, 0, 2, 0, 1];
-
-/// Points and triangles over them, to be merged with every subset of the points marked.
-#[rustfmt::skip]
-const LISTS: [(&[(i32, i32)], &[u32]); 6] = [
-    // a square, and with the triangle beyond the diagonal given twice
-    (&SQUARE, &CUT),
-    (&SQUARE, &[2, 3, 0, 2, 0, 1, 2, 0, 1]),
-    // not convex, so that a turn refuses the join as well
-    (&[(0, 0), (2, 1), (4, 0), (2, 4)], &[1, 2, 3, 3, 0, 1]),
-    // there and back, and from a point to itself
-    (&[(0, 0), (4, 0), (0, 4)], &[0, 1, 2, 2, 1, 0]),
-    (&[(1, 1)], &[0, 0, 0, 0, 0, 0]),
-    // a triangle with a neighbour beyond its first edge and one beyond its second
-    (&[(0, 0), (4, 0), (5, 3), (2, 5), (-1, 3)], &[3, 0, 2, 0, 1, 2, 0, 3, 4]),
-];
-
-/// A list with room for all of it.
-fn merge(side: &mut impl Side, coords: &[u8], marks: &[u8], triangles: &[u32]) {
-    let given = bytes_of(triangles);
-    side.merge(coords, marks, &given, given.len(), given.len() / 3);
-}
-
-/// Marks that fit and marks that do not, by themselves and beside each refusal that comes after 1.
-fn numbers_of_marks(list: &mut impl Side) {
-    let square = bytes_of_floats(&coords(&SQUARE));
-    let marks = bytes_of(&[1, 0, 0x100, 0, u32::MAX, 1, 1, 1]);
-    for bytes in (0..=23).chain([32]) {
-        merge(list, &square, &marks[..bytes], &CUT);
-    }
-    for stray in 1..4 {
-        merge(list, &[&square[..], &marks[..stray]].concat(), &marks[..16], &CUT);
-    }
-    for (floats, n) in [(0, 1), (1, 0), (1, 1), (2, 0), (2, 1), (2, 2), (3, 1), (3, 2), (3, 3), (7, 3), (7, 4), (7, 7)] {
-        merge(list, &square[..4 * floats], &marks[..4 * n], &[0, 0, 0]);
-    }
-    let off = bytes_of_floats(&[0.0, 0.5, 4.0, 0.0, 4.0, 4.0, 0.0, 4.0]);
-    for (coords, triangles) in [(&off, &[0, 1][..]), (&square, &[0, 4]), (&square, &[0, 1, 4]), (&square, &[0, 1, 2])] {
-        for n in 3..=5 {
-            list.merge(coords, &marks[..4 * n], &bytes_of(triangles), 0, 0);
-        }
-    }
-    list.merge(&square, &marks[..12], &[0; 4 * 1533], 0, 0);
-    for n in [512, 513] {
-        list.merge(&[0; 8 * 513], &vec![0; 4 * n], &[], 0, 0);
-    }
-}
-
-/// The triangles of an outline with some corners marked.
-fn marked_outline(side: &mut impl Side, corners: &[(i32, i32)], marks: &[u8]) {
-    let bytes = bytes_of_floats(&coords(corners));
-    let mut triangles = vec![0; 12 * (corners.len() - 2)];
-    if triangulate_ear_clipping(&bytes, &mut triangles).number == 0 {
-        side.merge(&bytes, marks, &triangles, triangles.len() + 5, triangles.len() / 3 + 2);
-    }
-}
-
-fn joints(list: &mut impl Side) {
-    numbers_of_marks(list);
-    for (points, triangles) in LISTS {
-        for subset in 0..1 << points.len() {
-            merge(list, &bytes_of_floats(&coords(points)), &subset_marks(points.len(), subset), triangles);
-        }
-    }
-    // by any one bit
-    for bit in 0..32 {
-        merge(list, &bytes_of_floats(&coords(&SQUARE)), &bytes_of(&[1 << bit, 0, 1 << (31 - bit), 0]), &CUT);
-    }
-    // the most points, of which the last two are marked
-    let last = [vec![0; 4 * 510], bytes_of(&[1, 1])].concat();
-    merge(list, &[0; 8 * 512], &last, &[511, 510, 0, 510, 511, 1]);
-    let mut r = Random::new(8);
-    for (_, shape) in KINDS {
-        marked_outline(list, &shape(16), &[1; 4 * 16]);
-        for n in [16, 16, 30] {
-            marked_outline(list, &shape(n), &random_marks(&mut r, n));
-        }
-    }
-    for i in 0..100 {
-        let n = 4 + r.below(6);
-        let corners: Outline = (0..n).map(|_| (r.within(-3, 3), r.within(-3, 3))).collect();
-        let corners = if i % 16 == 0 { slots::random(&mut r) } else { counter_clockwise(corners) };
-        marked_outline(list, &corners, &random_marks(&mut r, corners.len()));
-    }
-}
-
 fn main() {
     let mut list: Vec<u8> = Vec::new();
     // of these, as many as 65536 bytes hold
@@ -288,6 +194,5 @@ fn main() {
     rest.roots(0, 2048);
     rest.roots(MOST - 64, 129);
     hulls(&mut rest);
-    joints(&mut rest);
     std::io::stdout().write_all(&list).expect("standard output takes the list");
 }

@@ -36,7 +36,7 @@ fn write(seconds: u64, seed: u64, put: impl FnMut(u64, &[u8])) -> String {
     let all = |yes: bool| if yes { ", all of them" } else { "" };
     let over = turn >= TURNS;
     let others = side.inputs - shorts - roots as u64;
-    let random = format!("{others} random ones from seed {seed}; {} cuts accepted, {} where a point is passed twice; {}; {} spots on a border; {}", side.accepted, side.twice, side.joints, side.border, side.hulls);
+    let random = format!("{others} random ones from seed {seed}; {} cuts accepted, {} where a point is passed twice; {} spots on a border; {}", side.accepted, side.twice, side.border, side.hulls);
     format!("{} inputs: {shorts} short ones{}; {roots} roots{}; {random}", side.inputs, all(over), all(over))
 }
 

@@ -26,20 +26,6 @@ slice_bounds-hertel_mehlhorn_idx-end c =
     cut-done _ c.cut_line-cut.ensures size c.if-number-ne0.false c.wide-m.ensures in
     sym (length-take-le _ _ (omega (arith, few known, known.size)))
 
-pub slice_bounds-marks-end : goal.slice_bounds-marks-end
-slice_bounds-marks-end c =
-    let known : Cut c.args.line.now c.args.out.now c.wide-m.result c.cut_line-cut.new.coords
-    c.cut_line-cut.new.indices = let size : length c.cut_line-cut.new.coords ≡ most_coordinates = omega (arith, c.cut_line-cut.auto, c.no_floats-coords.ensures) in
-    cut-done _ c.cut_line-cut.ensures size c.if-number-ne0.false c.wide-m.ensures in
-    omega (arith, few known, c.no_marks-marks.ensures.result_len)
-
-pub slice_bounds-hertel_mehlhorn_idx-end-2 : goal.slice_bounds-hertel_mehlhorn_idx-end-2
-slice_bounds-hertel_mehlhorn_idx-end-2 c =
-    let known : Cut c.args.line.now c.args.out.now c.wide-m.result c.cut_line-cut.new.coords
-    c.cut_line-cut.new.indices = let size : length c.cut_line-cut.new.coords ≡ most_coordinates = omega (arith, c.cut_line-cut.auto, c.no_floats-coords.ensures) in
-    cut-done _ c.cut_line-cut.ensures size c.if-number-ne0.false c.wide-m.ensures in
-    sym (length-take-le _ _ (omega (arith, few known, c.no_marks-marks.ensures.result_len)))
-
 pub slice_bounds-triangles-end : goal.slice_bounds-triangles-end
 slice_bounds-triangles-end c =
     let known : Cut c.args.line.now c.args.out.now c.wide-m.result c.cut_line-cut.new.coords
@@ -47,8 +33,8 @@ slice_bounds-triangles-end c =
     cut-done _ c.cut_line-cut.ensures size c.if-number-ne0.false c.wide-m.ensures in
     omega (arith, few known, c.cut_line-cut.auto, c.zeros-triangles.ensures.result_len, c.zeros-triangles.ensures.value)
 
-pub slice_bounds-hertel_mehlhorn_idx-end-3 : goal.slice_bounds-hertel_mehlhorn_idx-end-3
-slice_bounds-hertel_mehlhorn_idx-end-3 c =
+pub slice_bounds-hertel_mehlhorn_idx-end-2 : goal.slice_bounds-hertel_mehlhorn_idx-end-2
+slice_bounds-hertel_mehlhorn_idx-end-2 c =
     let known : Cut c.args.line.now c.args.out.now c.wide-m.result c.cut_line-cut.new.coords
     c.cut_line-cut.new.indices = let size : length c.cut_line-cut.new.coords ≡ most_coordinates = omega (arith, c.cut_line-cut.auto, c.no_floats-coords.ensures) in
     cut-done _ c.cut_line-cut.ensures size c.if-number-ne0.false c.wide-m.ensures in
@@ -77,7 +63,7 @@ slice_bounds-lengths-end c =
     let known : Cut c.args.line.now c.args.out.now c.wide-m.result c.cut_line-cut.new.coords
     c.cut_line-cut.new.indices = let size : length c.cut_line-cut.new.coords ≡ most_coordinates = omega (arith, c.cut_line-cut.auto, c.no_floats-coords.ensures) in
     cut-done _ c.cut_line-cut.ensures size c.if-number-ne0.false c.wide-m.ensures in
-    let merged_few : c.wide-count.result ≤ most_triangles = omega (arith, c.wide-count.ensures, areas_few known _ c.no_marks-marks.ensures.value _ _ c.zeros-indices.ensures.result_len c.threes-lengths.ensures.result_len c.hertel_mehlhorn_idx-merged.ensures) in
+    let merged_few : c.wide-count.result ≤ most_triangles = omega (arith, c.wide-count.ensures, areas_few known _ _ c.zeros-indices.ensures.result_len c.threes-lengths.ensures.result_len c.hertel_mehlhorn_idx-merged.ensures) in
     omega (arith, merged_few, c.hertel_mehlhorn_idx-merged.auto, c.threes-lengths.ensures.result_len)
 
 pub slice_bounds-write_multipolygon-end-3 : goal.slice_bounds-write_multipolygon-end-3
@@ -85,7 +71,7 @@ slice_bounds-write_multipolygon-end-3 c =
     let known : Cut c.args.line.now c.args.out.now c.wide-m.result c.cut_line-cut.new.coords
     c.cut_line-cut.new.indices = let size : length c.cut_line-cut.new.coords ≡ most_coordinates = omega (arith, c.cut_line-cut.auto, c.no_floats-coords.ensures) in
     cut-done _ c.cut_line-cut.ensures size c.if-number-ne0.false c.wide-m.ensures in
-    let merged_few : c.wide-count.result ≤ most_triangles = omega (arith, c.wide-count.ensures, areas_few known _ c.no_marks-marks.ensures.value _ _ c.zeros-indices.ensures.result_len c.threes-lengths.ensures.result_len c.hertel_mehlhorn_idx-merged.ensures) in
+    let merged_few : c.wide-count.result ≤ most_triangles = omega (arith, c.wide-count.ensures, areas_few known _ _ c.zeros-indices.ensures.result_len c.threes-lengths.ensures.result_len c.hertel_mehlhorn_idx-merged.ensures) in
     sym (length-take-le _ _ (omega (arith, merged_few, c.hertel_mehlhorn_idx-merged.auto, c.threes-lengths.ensures.result_len)))
 
 pub write_multipolygon-end-requires : goal.write_multipolygon-end-requires
@@ -94,7 +80,7 @@ write_multipolygon-end-requires c =
     c.cut_line-cut.new.indices = let size : length c.cut_line-cut.new.coords ≡ most_coordinates = omega (arith, c.cut_line-cut.auto, c.no_floats-coords.ensures) in
     cut-done _ c.cut_line-cut.ensures size c.if-number-ne0.false c.wide-m.ensures in
     let stands : Stands (take (2 * c.wide-m.result + 4) c.cut_line-cut.new.coords) (areas_for known.corners) c.hertel_mehlhorn_idx-merged.new.indices
-    (take c.wide-count.result c.hertel_mehlhorn_idx-merged.new.lengths) = areas_stand known _ c.no_marks-marks.ensures.value _ _ c.zeros-indices.ensures.result_len c.threes-lengths.ensures.result_len c.hertel_mehlhorn_idx-merged.ensures _ c.wide-count.ensures c.zeros-indices.ensures.value in
+    (take c.wide-count.result c.hertel_mehlhorn_idx-merged.new.lengths) = areas_stand known _ _ c.zeros-indices.ensures.result_len c.threes-lengths.ensures.result_len c.hertel_mehlhorn_idx-merged.ensures _ c.wide-count.ensures c.zeros-indices.ensures.value in
     let s = stands in
     record { known = s.known; lengths_nonzero = (s.some, s.within); each = s.filled_each; room = text_fits known areas_for (areas_kept known) s }
 
@@ -104,7 +90,7 @@ overflow_cast-result c =
     c.cut_line-cut.new.indices = let size : length c.cut_line-cut.new.coords ≡ most_coordinates = omega (arith, c.cut_line-cut.auto, c.no_floats-coords.ensures) in
     cut-done _ c.cut_line-cut.ensures size c.if-number-ne0.false c.wide-m.ensures in
     let stands : Stands (take (2 * c.wide-m.result + 4) c.cut_line-cut.new.coords) (areas_for known.corners) c.hertel_mehlhorn_idx-merged.new.indices
-    (take c.wide-count.result c.hertel_mehlhorn_idx-merged.new.lengths) = areas_stand known _ c.no_marks-marks.ensures.value _ _ c.zeros-indices.ensures.result_len c.threes-lengths.ensures.result_len c.hertel_mehlhorn_idx-merged.ensures _ c.wide-count.ensures c.zeros-indices.ensures.value in
+    (take c.wide-count.result c.hertel_mehlhorn_idx-merged.new.lengths) = areas_stand known _ _ c.zeros-indices.ensures.result_len c.threes-lengths.ensures.result_len c.hertel_mehlhorn_idx-merged.ensures _ c.wide-count.ensures c.zeros-indices.ensures.value in
     omega (arith, text-small known areas_for (areas_kept known) stands c.write_multipolygon-end.ensures)
 
 pub returns : goal.returns
@@ -113,6 +99,6 @@ returns c =
     c.cut_line-cut.new.indices = let size : length c.cut_line-cut.new.coords ≡ most_coordinates = omega (arith, c.cut_line-cut.auto, c.no_floats-coords.ensures) in
     cut-done _ c.cut_line-cut.ensures size c.if-number-ne0.false c.wide-m.ensures in
     let stands : Stands (take (2 * c.wide-m.result + 4) c.cut_line-cut.new.coords) (areas_for known.corners) c.hertel_mehlhorn_idx-merged.new.indices
-    (take c.wide-count.result c.hertel_mehlhorn_idx-merged.new.lengths) = areas_stand known _ c.no_marks-marks.ensures.value _ _ c.zeros-indices.ensures.result_len c.threes-lengths.ensures.result_len c.hertel_mehlhorn_idx-merged.ensures _ c.wide-count.ensures c.zeros-indices.ensures.value in
+    (take c.wide-count.result c.hertel_mehlhorn_idx-merged.new.lengths) = areas_stand known _ _ c.zeros-indices.ensures.result_len c.threes-lengths.ensures.result_len c.hertel_mehlhorn_idx-merged.ensures _ c.wide-count.ensures c.zeros-indices.ensures.value in
     let k = known in
     record { fills = text-written k areas_for (areas_kept k) stands c.write_multipolygon-end.ensures; count_in_bounds = text-within k areas_for (areas_kept k) stands c.write_multipolygon-end.ensures }

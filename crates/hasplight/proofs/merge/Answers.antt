@@ -15,7 +15,7 @@ slice_bounds-hertel_mehlhorn_idx-end-2 c =
 
 pub slice_bounds-write_words-end : goal.slice_bounds-write_words-end
 slice_bounds-write_words-end c =
-    let lent : Lent c.args.floats.now c.args.marks.now c.args.given.now c.args.indices.now c.args.lengths.now c.zeros-out.result c.zeros-sizes.result
+    let lent : Lent c.args.floats.now c.args.given.now c.args.indices.now c.args.lengths.now c.zeros-out.result c.zeros-sizes.result
     c.least-room.result c.least-places.result c.hertel_mehlhorn_idx-a.result c.hertel_mehlhorn_idx-a.new.indices c.hertel_mehlhorn_idx-a.new.lengths = record {
       few = c.requires;
       room_is = c.least-room.ensures.value;
@@ -28,7 +28,7 @@ slice_bounds-write_words-end c =
 
 pub write_words-requires : goal.write_words-requires
 write_words-requires c =
-    let lent : Lent c.args.floats.now c.args.marks.now c.args.given.now c.args.indices.now c.args.lengths.now c.zeros-out.result c.zeros-sizes.result
+    let lent : Lent c.args.floats.now c.args.given.now c.args.indices.now c.args.lengths.now c.zeros-out.result c.zeros-sizes.result
     c.least-room.result c.least-places.result c.hertel_mehlhorn_idx-a.result c.hertel_mehlhorn_idx-a.new.indices c.hertel_mehlhorn_idx-a.new.lengths = record {
       few = c.requires;
       room_is = c.least-room.ensures.value;
@@ -41,7 +41,7 @@ write_words-requires c =
 
 pub slice_bounds-write_words-end-2 : goal.slice_bounds-write_words-end-2
 slice_bounds-write_words-end-2 c =
-    let lent : Lent c.args.floats.now c.args.marks.now c.args.given.now c.args.indices.now c.args.lengths.now c.zeros-out.result c.zeros-sizes.result
+    let lent : Lent c.args.floats.now c.args.given.now c.args.indices.now c.args.lengths.now c.zeros-out.result c.zeros-sizes.result
     c.least-room.result c.least-places.result c.hertel_mehlhorn_idx-a.result c.hertel_mehlhorn_idx-a.new.indices c.hertel_mehlhorn_idx-a.new.lengths = record {
       few = c.requires;
       room_is = c.least-room.ensures.value;
@@ -54,7 +54,7 @@ slice_bounds-write_words-end-2 c =
 
 pub write_words-requires-2 : goal.write_words-requires-2
 write_words-requires-2 c =
-    let lent : Lent c.args.floats.now c.args.marks.now c.args.given.now c.args.indices.now c.args.lengths.now c.zeros-out.result c.zeros-sizes.result
+    let lent : Lent c.args.floats.now c.args.given.now c.args.indices.now c.args.lengths.now c.zeros-out.result c.zeros-sizes.result
     c.least-room.result c.least-places.result c.hertel_mehlhorn_idx-a.result c.hertel_mehlhorn_idx-a.new.indices c.hertel_mehlhorn_idx-a.new.lengths = record {
       few = c.requires;
       room_is = c.least-room.ensures.value;
@@ -67,7 +67,7 @@ write_words-requires-2 c =
 
 pub returns : goal.returns
 returns c =
-    let lent : Lent c.args.floats.now c.args.marks.now c.args.given.now c.args.indices.now c.args.lengths.now c.zeros-out.result c.zeros-sizes.result
+    let lent : Lent c.args.floats.now c.args.given.now c.args.indices.now c.args.lengths.now c.zeros-out.result c.zeros-sizes.result
     c.least-room.result c.least-places.result c.hertel_mehlhorn_idx-a.result c.hertel_mehlhorn_idx-a.new.indices c.hertel_mehlhorn_idx-a.new.lengths = record {
       few = c.requires;
       room_is = c.least-room.ensures.value;

@@ -19,7 +19,7 @@ loop-a-init c =
 
 pub grow-piece-requires : goal.grow-piece-requires
 grow-piece-requires c =
-    record { coords_value = (c.requires.known.0.on_grid, c.requires.marks_len); lie = (c.loop-a.invariant.lie, c.loop-a-test.true); each = (c.loop-a.invariant.corners, c.requires.known.1); sized = c.loop-a.invariant.sized }
+    record { coords_value = c.requires.known.0.on_grid; lie = (c.loop-a.invariant.lie, c.loop-a-test.true); each = (c.loop-a.invariant.corners, c.requires.known.1); sized = c.loop-a.invariant.sized }
 
 pub offset_bounds-indices-w : goal.offset_bounds-indices-w
 offset_bounds-indices-w c =

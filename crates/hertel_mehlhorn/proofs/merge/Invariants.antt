@@ -9,7 +9,7 @@ use Rattle.hertel_mehlhorn.proofs.merge.Given as goal
 
 abbrev pub invariant-loop-a : goal.invariant-loop-a
 invariant-loop-a l =
-    Work (may_join (points_of l.coords) l.marks) (length (points_of l.coords)) (triples l.triangles) (length l.triangles) l.initial.indices l.initial.lengths l.edges l.eights l.vert l.succ l.pred l.queue l.indices l.lengths l.count l.a l.w
+    Work (may_join (points_of l.coords)) (length (points_of l.coords)) (triples l.triangles) (length l.triangles) l.initial.indices l.initial.lengths l.edges l.eights l.vert l.succ l.pred l.queue l.indices l.lengths l.count l.a l.w
 
 abbrev pub decreases-loop-a : goal.decreases-loop-a
 decreases-loop-a l =

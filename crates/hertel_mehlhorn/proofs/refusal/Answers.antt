@@ -14,16 +14,16 @@ use Rattle.rules.proofs.Fronts.{triangles-front}
 use Rattle.rules.proofs.Coordinates.{points-length}
 use Rattle.hertel_mehlhorn.proofs.refusal.Goals as goal
 
-module _ (cs : List Float) (marks : ℕ) (tri : List ℕ) (room places : ℕ) {n : ℕ} (first : n ≡ first_refusal (before_triangles cs marks (length tri))) where
+module _ (cs : List Float) (tri : List ℕ) (room places : ℕ) {n : ℕ} (first : n ≡ first_refusal (before_triangles cs (length tri))) where
   abbrev rows : ℕ
-  rows = first_refusal (merger_checks cs marks tri room places)
+  rows = first_refusal (merger_checks cs tri room places)
 
   early : n ≢ 0 → n ≡ rows
-  early d = front_gives (triangles-front cs marks tri room places) first d
+  early d = front_gives (triangles-front cs tri room places) first d
 
   module _ (none : n ≡ 0) where
     rest_decides : rows ≡ first_refusal (triangle_checks (points_of cs) tri room places)
-    rest_decides = others_decide (triangles-front cs marks tri room places) (sym first ∙ none)
+    rest_decides = others_decide (triangles-front cs tri room places) (sym first ∙ none)
 
     range_is : {t : Bool} → out_of_range (length cs / 2) tri ≡ t → out_of_range (length (points_of cs)) tri ≡ t
     range_is e = rw (points-length cs) e
@@ -46,20 +46,20 @@ module _ (cs : List Float) (marks : ℕ) (tri : List ℕ) (room places : ℕ) {n
         enough h = sym (room_decides ∙ row_off 6 [] (rw (le-ltb room (length tri) fits, le-ltb places (length tri / 3) h)) ∙ no_rows)
 
 pub returns-then-number-ne0 : goal.returns-then-number-ne0
-returns-then-number-ne0 c = early _ _ _ _ _ c.early_refusal-number.ensures c.if-number-ne0.true
+returns-then-number-ne0 c = early _ _ _ _ c.early_refusal-number.ensures c.if-number-ne0.true
 
 pub returns-then-out_of_range : goal.returns-then-out_of_range
 returns-then-out_of_range c =
-    out _ _ _ _ _ c.early_refusal-number.ensures c.if-number-ne0.false (sym c.out_of_range.ensures ∙ c.if-out_of_range.true)
+    out _ _ _ _ c.early_refusal-number.ensures c.if-number-ne0.false (sym c.out_of_range.ensures ∙ c.if-out_of_range.true)
 
 pub returns-then-room-triangles : goal.returns-then-room-triangles
 returns-then-room-triangles c =
-    short _ _ _ _ _ c.early_refusal-number.ensures c.if-number-ne0.false (sym c.out_of_range.ensures ∙ c.if-out_of_range.false) c.if-room-triangles.true
+    short _ _ _ _ c.early_refusal-number.ensures c.if-number-ne0.false (sym c.out_of_range.ensures ∙ c.if-out_of_range.false) c.if-room-triangles.true
 
 pub returns-then-places-triangles : goal.returns-then-places-triangles
 returns-then-places-triangles c =
-    few-places _ _ _ _ _ c.early_refusal-number.ensures c.if-number-ne0.false (sym c.out_of_range.ensures ∙ c.if-out_of_range.false) c.if-room-triangles.false c.if-places-triangles.true
+    few-places _ _ _ _ c.early_refusal-number.ensures c.if-number-ne0.false (sym c.out_of_range.ensures ∙ c.if-out_of_range.false) c.if-room-triangles.false c.if-places-triangles.true
 
 pub returns : goal.returns
 returns c =
-    enough _ _ _ _ _ c.early_refusal-number.ensures c.if-number-ne0.false (sym c.out_of_range.ensures ∙ c.if-out_of_range.false) c.if-room-triangles.false c.if-places-triangles.false
+    enough _ _ _ _ c.early_refusal-number.ensures c.if-number-ne0.false (sym c.out_of_range.ensures ∙ c.if-out_of_range.false) c.if-room-triangles.false c.if-places-triangles.false

@@ -33,7 +33,7 @@ overflow_add-a c = omega (arith, c.loop-refused.invariant.behind, c.loop-refused
 
 pub look_at-requires : goal.look_at-requires
 look_at-requires c =
-    let turning : (Turn (may_join (points_of c.args.coords.now) c.args.marks.now) (length (points_of c.args.coords.now)) c.args.edges.now c.args.a c.args.given
+    let turning : (Turn (may_join (points_of c.args.coords.now)) (length (points_of c.args.coords.now)) c.args.edges.now c.args.a c.args.given
     c.loop-refused.edges c.loop-refused.eights c.loop-refused.vert c.loop-refused.succ c.loop-refused.pred c.loop-refused.queue
     c.loop-refused.count c.loop-refused.start c.loop-refused.len c.loop-refused.head c.loop-refused.live c.loop-refused.refused c.place-s.result c.place-e.result) = record { growing = c.loop-refused.invariant; more = c.loop-refused-test.true; is_s = c.place-s.ensures; is_e = c.place-e.ensures } in
     record { coords_value = c.requires.coords_value; lie = (c.loop-refused.invariant.lie, omega (arith, c.loop-refused.invariant.behind)); each = (c.loop-refused.invariant.corners, c.requires.each.1); readable = readable turning }
@@ -49,15 +49,15 @@ loop-refused-smaller-in-Lone c = omega (arith, c.loop-refused-test.true)
 
 pub loop-refused-preserved-in-Lone : goal.loop-refused-preserved-in-Lone
 loop-refused-preserved-in-Lone c =
-    let turning : (Turn (may_join (points_of c.args.coords.now) c.args.marks.now) (length (points_of c.args.coords.now)) c.args.edges.now c.args.a c.args.given
+    let turning : (Turn (may_join (points_of c.args.coords.now)) (length (points_of c.args.coords.now)) c.args.edges.now c.args.a c.args.given
     c.loop-refused.edges c.loop-refused.eights c.loop-refused.vert c.loop-refused.succ c.loop-refused.pred c.loop-refused.queue
     c.loop-refused.count c.loop-refused.start c.loop-refused.len c.loop-refused.head c.loop-refused.live c.loop-refused.refused c.place-s.result c.place-e.result) = record { growing = c.loop-refused.invariant; more = c.loop-refused-test.true; is_s = c.place-s.ensures; is_e = c.place-e.ensures } in
-    let found : (r : Look) → c.look_at.result ≡ r → (Looked (may_join (points_of c.args.coords.now) c.args.marks.now) c.loop-refused.edges (c.args.a + 1) c.loop-refused.count c.loop-refused.vert c.loop-refused.succ c.loop-refused.pred c.place-s.result c.place-e.result r) = λ r is. looked_is _ _ _ _ _ _ _ _ _ c.look_at.result is c.look_at.ensures in
+    let found : (r : Look) → c.look_at.result ≡ r → (Looked (may_join (points_of c.args.coords.now)) c.loop-refused.edges (c.args.a + 1) c.loop-refused.count c.loop-refused.vert c.loop-refused.succ c.loop-refused.pred c.place-s.result c.place-e.result r) = λ r is. looked_is _ _ _ _ _ _ _ _ _ c.look_at.result is c.look_at.ensures in
     grow_lone turning (found _ c.in-Lone.is)
 
 pub narrow-requires : goal.narrow-requires
 narrow-requires c =
-    let turning : (Turn (may_join (points_of c.args.coords.now) c.args.marks.now) (length (points_of c.args.coords.now)) c.args.edges.now c.args.a c.args.given
+    let turning : (Turn (may_join (points_of c.args.coords.now)) (length (points_of c.args.coords.now)) c.args.edges.now c.args.a c.args.given
     c.loop-refused.edges c.loop-refused.eights c.loop-refused.vert c.loop-refused.succ c.loop-refused.pred c.loop-refused.queue
     c.loop-refused.count c.loop-refused.start c.loop-refused.len c.loop-refused.head c.loop-refused.live c.loop-refused.refused c.place-s.result c.place-e.result) = record { growing = c.loop-refused.invariant; more = c.loop-refused-test.true; is_s = c.place-s.ensures; is_e = c.place-e.ensures } in
     (readable turning).at_s.place
@@ -76,40 +76,40 @@ loop-refused-smaller-in-Refused c = omega (arith, c.loop-refused-test.true)
 
 pub loop-refused-preserved-in-Refused : goal.loop-refused-preserved-in-Refused
 loop-refused-preserved-in-Refused c =
-    let turning : (Turn (may_join (points_of c.args.coords.now) c.args.marks.now) (length (points_of c.args.coords.now)) c.args.edges.now c.args.a c.args.given
+    let turning : (Turn (may_join (points_of c.args.coords.now)) (length (points_of c.args.coords.now)) c.args.edges.now c.args.a c.args.given
     c.loop-refused.edges c.loop-refused.eights c.loop-refused.vert c.loop-refused.succ c.loop-refused.pred c.loop-refused.queue
     c.loop-refused.count c.loop-refused.start c.loop-refused.len c.loop-refused.head c.loop-refused.live c.loop-refused.refused c.place-s.result c.place-e.result) = record { growing = c.loop-refused.invariant; more = c.loop-refused-test.true; is_s = c.place-s.ensures; is_e = c.place-e.ensures } in
-    let found : (r : Look) → c.look_at.result ≡ r → (Looked (may_join (points_of c.args.coords.now) c.args.marks.now) c.loop-refused.edges (c.args.a + 1) c.loop-refused.count c.loop-refused.vert c.loop-refused.succ c.loop-refused.pred c.place-s.result c.place-e.result r) = λ r is. looked_is _ _ _ _ _ _ _ _ _ c.look_at.result is c.look_at.ensures in
+    let found : (r : Look) → c.look_at.result ≡ r → (Looked (may_join (points_of c.args.coords.now)) c.loop-refused.edges (c.args.a + 1) c.loop-refused.count c.loop-refused.vert c.loop-refused.succ c.loop-refused.pred c.place-s.result c.place-e.result r) = λ r is. looked_is _ _ _ _ _ _ _ _ _ c.look_at.result is c.look_at.ensures in
     grow_refused turning (found _ c.in-Refused.is) _ c.narrow.ensures
 
 pub overflow_sub-count : goal.overflow_sub-count
 overflow_sub-count c =
-    let turning : (Turn (may_join (points_of c.args.coords.now) c.args.marks.now) (length (points_of c.args.coords.now)) c.args.edges.now c.args.a c.args.given
+    let turning : (Turn (may_join (points_of c.args.coords.now)) (length (points_of c.args.coords.now)) c.args.edges.now c.args.a c.args.given
     c.loop-refused.edges c.loop-refused.eights c.loop-refused.vert c.loop-refused.succ c.loop-refused.pred c.loop-refused.queue
     c.loop-refused.count c.loop-refused.start c.loop-refused.len c.loop-refused.head c.loop-refused.live c.loop-refused.refused c.place-s.result c.place-e.result) = record { growing = c.loop-refused.invariant; more = c.loop-refused-test.true; is_s = c.place-s.ensures; is_e = c.place-e.ensures } in
-    let found : (r : Look) → c.look_at.result ≡ r → (Looked (may_join (points_of c.args.coords.now) c.args.marks.now) c.loop-refused.edges (c.args.a + 1) c.loop-refused.count c.loop-refused.vert c.loop-refused.succ c.loop-refused.pred c.place-s.result c.place-e.result r) = λ r is. looked_is _ _ _ _ _ _ _ _ _ c.look_at.result is c.look_at.ensures in
-    let joining : ((Looked (may_join (points_of c.args.coords.now) c.args.marks.now) c.loop-refused.edges (c.args.a + 1) c.loop-refused.count c.loop-refused.vert c.loop-refused.succ c.loop-refused.pred c.place-s.result c.place-e.result (Joins c.in-Joins.piece c.in-Joins.third))) = found _ c.in-Joins.is in
+    let found : (r : Look) → c.look_at.result ≡ r → (Looked (may_join (points_of c.args.coords.now)) c.loop-refused.edges (c.args.a + 1) c.loop-refused.count c.loop-refused.vert c.loop-refused.succ c.loop-refused.pred c.place-s.result c.place-e.result r) = λ r is. looked_is _ _ _ _ _ _ _ _ _ c.look_at.result is c.look_at.ensures in
+    let joining : ((Looked (may_join (points_of c.args.coords.now)) c.loop-refused.edges (c.args.a + 1) c.loop-refused.count c.loop-refused.vert c.loop-refused.succ c.loop-refused.pred c.place-s.result c.place-e.result (Joins c.in-Joins.piece c.in-Joins.third))) = found _ c.in-Joins.is in
     let range : (c.args.a + 1 ≤ c.in-Joins.piece) × (c.in-Joins.piece < c.loop-refused.count) = piece_range turning _ _ joining in
     omega (arith, range)
 
 pub take_out-requires : goal.take_out-requires
 take_out-requires c =
-    let turning : (Turn (may_join (points_of c.args.coords.now) c.args.marks.now) (length (points_of c.args.coords.now)) c.args.edges.now c.args.a c.args.given
+    let turning : (Turn (may_join (points_of c.args.coords.now)) (length (points_of c.args.coords.now)) c.args.edges.now c.args.a c.args.given
     c.loop-refused.edges c.loop-refused.eights c.loop-refused.vert c.loop-refused.succ c.loop-refused.pred c.loop-refused.queue
     c.loop-refused.count c.loop-refused.start c.loop-refused.len c.loop-refused.head c.loop-refused.live c.loop-refused.refused c.place-s.result c.place-e.result) = record { growing = c.loop-refused.invariant; more = c.loop-refused-test.true; is_s = c.place-s.ensures; is_e = c.place-e.ensures } in
-    let found : (r : Look) → c.look_at.result ≡ r → (Looked (may_join (points_of c.args.coords.now) c.args.marks.now) c.loop-refused.edges (c.args.a + 1) c.loop-refused.count c.loop-refused.vert c.loop-refused.succ c.loop-refused.pred c.place-s.result c.place-e.result r) = λ r is. looked_is _ _ _ _ _ _ _ _ _ c.look_at.result is c.look_at.ensures in
-    let joining : ((Looked (may_join (points_of c.args.coords.now) c.args.marks.now) c.loop-refused.edges (c.args.a + 1) c.loop-refused.count c.loop-refused.vert c.loop-refused.succ c.loop-refused.pred c.place-s.result c.place-e.result (Joins c.in-Joins.piece c.in-Joins.third))) = found _ c.in-Joins.is in
+    let found : (r : Look) → c.look_at.result ≡ r → (Looked (may_join (points_of c.args.coords.now)) c.loop-refused.edges (c.args.a + 1) c.loop-refused.count c.loop-refused.vert c.loop-refused.succ c.loop-refused.pred c.place-s.result c.place-e.result r) = λ r is. looked_is _ _ _ _ _ _ _ _ _ c.look_at.result is c.look_at.ensures in
+    let joining : ((Looked (may_join (points_of c.args.coords.now)) c.loop-refused.edges (c.args.a + 1) c.loop-refused.count c.loop-refused.vert c.loop-refused.succ c.loop-refused.pred c.place-s.result c.place-e.result (Joins c.in-Joins.piece c.in-Joins.third))) = found _ c.in-Joins.is in
     let range : (c.args.a + 1 ≤ c.in-Joins.piece) × (c.in-Joins.piece < c.loop-refused.count) = piece_range turning _ _ joining in
     let r = range in
     (omega (arith, r, c.loop-refused.invariant.lie.few), omega (arith, r, c.loop-refused.invariant.lie.few), last_low turning _ _ joining)
 
 pub put_between-requires : goal.put_between-requires
 put_between-requires c =
-    let turning : (Turn (may_join (points_of c.args.coords.now) c.args.marks.now) (length (points_of c.args.coords.now)) c.args.edges.now c.args.a c.args.given
+    let turning : (Turn (may_join (points_of c.args.coords.now)) (length (points_of c.args.coords.now)) c.args.edges.now c.args.a c.args.given
     c.loop-refused.edges c.loop-refused.eights c.loop-refused.vert c.loop-refused.succ c.loop-refused.pred c.loop-refused.queue
     c.loop-refused.count c.loop-refused.start c.loop-refused.len c.loop-refused.head c.loop-refused.live c.loop-refused.refused c.place-s.result c.place-e.result) = record { growing = c.loop-refused.invariant; more = c.loop-refused-test.true; is_s = c.place-s.ensures; is_e = c.place-e.ensures } in
-    let found : (r : Look) → c.look_at.result ≡ r → (Looked (may_join (points_of c.args.coords.now) c.args.marks.now) c.loop-refused.edges (c.args.a + 1) c.loop-refused.count c.loop-refused.vert c.loop-refused.succ c.loop-refused.pred c.place-s.result c.place-e.result r) = λ r is. looked_is _ _ _ _ _ _ _ _ _ c.look_at.result is c.look_at.ensures in
-    let joining : ((Looked (may_join (points_of c.args.coords.now) c.args.marks.now) c.loop-refused.edges (c.args.a + 1) c.loop-refused.count c.loop-refused.vert c.loop-refused.succ c.loop-refused.pred c.place-s.result c.place-e.result (Joins c.in-Joins.piece c.in-Joins.third))) = found _ c.in-Joins.is in
+    let found : (r : Look) → c.look_at.result ≡ r → (Looked (may_join (points_of c.args.coords.now)) c.loop-refused.edges (c.args.a + 1) c.loop-refused.count c.loop-refused.vert c.loop-refused.succ c.loop-refused.pred c.place-s.result c.place-e.result r) = λ r is. looked_is _ _ _ _ _ _ _ _ _ c.look_at.result is c.look_at.ensures in
+    let joining : ((Looked (may_join (points_of c.args.coords.now)) c.loop-refused.edges (c.args.a + 1) c.loop-refused.count c.loop-refused.vert c.loop-refused.succ c.loop-refused.pred c.place-s.result c.place-e.result (Joins c.in-Joins.piece c.in-Joins.third))) = found _ c.in-Joins.is in
     let new_low : c.loop-refused.len < 512 = room turning _ _ joining in
     let s = readable turning in
     let below = third_below turning _ _ joining in
@@ -117,7 +117,7 @@ put_between-requires c =
 
 pub narrow-requires-in-Joins : goal.narrow-requires-in-Joins
 narrow-requires-in-Joins c =
-    let turning : (Turn (may_join (points_of c.args.coords.now) c.args.marks.now) (length (points_of c.args.coords.now)) c.args.edges.now c.args.a c.args.given
+    let turning : (Turn (may_join (points_of c.args.coords.now)) (length (points_of c.args.coords.now)) c.args.edges.now c.args.a c.args.given
     c.loop-refused.edges c.loop-refused.eights c.loop-refused.vert c.loop-refused.succ c.loop-refused.pred c.loop-refused.queue
     c.loop-refused.count c.loop-refused.start c.loop-refused.len c.loop-refused.head c.loop-refused.live c.loop-refused.refused c.place-s.result c.place-e.result) = record { growing = c.loop-refused.invariant; more = c.loop-refused-test.true; is_s = c.place-s.ensures; is_e = c.place-e.ensures } in
     (readable turning).at_s.place
@@ -127,11 +127,11 @@ overflow_add-queue-in-Joins c = omega (arith, c.loop-refused.invariant.bounded, 
 
 pub narrow-requires-in-Joins-2 : goal.narrow-requires-in-Joins-2
 narrow-requires-in-Joins-2 c =
-    let turning : (Turn (may_join (points_of c.args.coords.now) c.args.marks.now) (length (points_of c.args.coords.now)) c.args.edges.now c.args.a c.args.given
+    let turning : (Turn (may_join (points_of c.args.coords.now)) (length (points_of c.args.coords.now)) c.args.edges.now c.args.a c.args.given
     c.loop-refused.edges c.loop-refused.eights c.loop-refused.vert c.loop-refused.succ c.loop-refused.pred c.loop-refused.queue
     c.loop-refused.count c.loop-refused.start c.loop-refused.len c.loop-refused.head c.loop-refused.live c.loop-refused.refused c.place-s.result c.place-e.result) = record { growing = c.loop-refused.invariant; more = c.loop-refused-test.true; is_s = c.place-s.ensures; is_e = c.place-e.ensures } in
-    let found : (r : Look) → c.look_at.result ≡ r → (Looked (may_join (points_of c.args.coords.now) c.args.marks.now) c.loop-refused.edges (c.args.a + 1) c.loop-refused.count c.loop-refused.vert c.loop-refused.succ c.loop-refused.pred c.place-s.result c.place-e.result r) = λ r is. looked_is _ _ _ _ _ _ _ _ _ c.look_at.result is c.look_at.ensures in
-    let joining : ((Looked (may_join (points_of c.args.coords.now) c.args.marks.now) c.loop-refused.edges (c.args.a + 1) c.loop-refused.count c.loop-refused.vert c.loop-refused.succ c.loop-refused.pred c.place-s.result c.place-e.result (Joins c.in-Joins.piece c.in-Joins.third))) = found _ c.in-Joins.is in
+    let found : (r : Look) → c.look_at.result ≡ r → (Looked (may_join (points_of c.args.coords.now)) c.loop-refused.edges (c.args.a + 1) c.loop-refused.count c.loop-refused.vert c.loop-refused.succ c.loop-refused.pred c.place-s.result c.place-e.result r) = λ r is. looked_is _ _ _ _ _ _ _ _ _ c.look_at.result is c.look_at.ensures in
+    let joining : ((Looked (may_join (points_of c.args.coords.now)) c.loop-refused.edges (c.args.a + 1) c.loop-refused.count c.loop-refused.vert c.loop-refused.succ c.loop-refused.pred c.place-s.result c.place-e.result (Joins c.in-Joins.piece c.in-Joins.third))) = found _ c.in-Joins.is in
     let new_low : c.loop-refused.len < 512 = room turning _ _ joining in
     new_low
 
@@ -143,11 +143,11 @@ overflow_add-queue-in-Joins-3 c = omega (arith, c.loop-refused.invariant.bounded
 
 pub overflow_add-len : goal.overflow_add-len
 overflow_add-len c =
-    let turning : (Turn (may_join (points_of c.args.coords.now) c.args.marks.now) (length (points_of c.args.coords.now)) c.args.edges.now c.args.a c.args.given
+    let turning : (Turn (may_join (points_of c.args.coords.now)) (length (points_of c.args.coords.now)) c.args.edges.now c.args.a c.args.given
     c.loop-refused.edges c.loop-refused.eights c.loop-refused.vert c.loop-refused.succ c.loop-refused.pred c.loop-refused.queue
     c.loop-refused.count c.loop-refused.start c.loop-refused.len c.loop-refused.head c.loop-refused.live c.loop-refused.refused c.place-s.result c.place-e.result) = record { growing = c.loop-refused.invariant; more = c.loop-refused-test.true; is_s = c.place-s.ensures; is_e = c.place-e.ensures } in
-    let found : (r : Look) → c.look_at.result ≡ r → (Looked (may_join (points_of c.args.coords.now) c.args.marks.now) c.loop-refused.edges (c.args.a + 1) c.loop-refused.count c.loop-refused.vert c.loop-refused.succ c.loop-refused.pred c.place-s.result c.place-e.result r) = λ r is. looked_is _ _ _ _ _ _ _ _ _ c.look_at.result is c.look_at.ensures in
-    let joining : ((Looked (may_join (points_of c.args.coords.now) c.args.marks.now) c.loop-refused.edges (c.args.a + 1) c.loop-refused.count c.loop-refused.vert c.loop-refused.succ c.loop-refused.pred c.place-s.result c.place-e.result (Joins c.in-Joins.piece c.in-Joins.third))) = found _ c.in-Joins.is in
+    let found : (r : Look) → c.look_at.result ≡ r → (Looked (may_join (points_of c.args.coords.now)) c.loop-refused.edges (c.args.a + 1) c.loop-refused.count c.loop-refused.vert c.loop-refused.succ c.loop-refused.pred c.place-s.result c.place-e.result r) = λ r is. looked_is _ _ _ _ _ _ _ _ _ c.look_at.result is c.look_at.ensures in
+    let joining : ((Looked (may_join (points_of c.args.coords.now)) c.loop-refused.edges (c.args.a + 1) c.loop-refused.count c.loop-refused.vert c.loop-refused.succ c.loop-refused.pred c.place-s.result c.place-e.result (Joins c.in-Joins.piece c.in-Joins.third))) = found _ c.in-Joins.is in
     let new_low : c.loop-refused.len < 512 = room turning _ _ joining in
     omega (arith, new_low)
 
@@ -159,21 +159,21 @@ overflow_add-head-in-Joins c = omega (arith, c.loop-refused.invariant.bounded)
 
 pub loop-refused-smaller : goal.loop-refused-smaller
 loop-refused-smaller c =
-    let turning : (Turn (may_join (points_of c.args.coords.now) c.args.marks.now) (length (points_of c.args.coords.now)) c.args.edges.now c.args.a c.args.given
+    let turning : (Turn (may_join (points_of c.args.coords.now)) (length (points_of c.args.coords.now)) c.args.edges.now c.args.a c.args.given
     c.loop-refused.edges c.loop-refused.eights c.loop-refused.vert c.loop-refused.succ c.loop-refused.pred c.loop-refused.queue
     c.loop-refused.count c.loop-refused.start c.loop-refused.len c.loop-refused.head c.loop-refused.live c.loop-refused.refused c.place-s.result c.place-e.result) = record { growing = c.loop-refused.invariant; more = c.loop-refused-test.true; is_s = c.place-s.ensures; is_e = c.place-e.ensures } in
-    let found : (r : Look) → c.look_at.result ≡ r → (Looked (may_join (points_of c.args.coords.now) c.args.marks.now) c.loop-refused.edges (c.args.a + 1) c.loop-refused.count c.loop-refused.vert c.loop-refused.succ c.loop-refused.pred c.place-s.result c.place-e.result r) = λ r is. looked_is _ _ _ _ _ _ _ _ _ c.look_at.result is c.look_at.ensures in
-    let joining : ((Looked (may_join (points_of c.args.coords.now) c.args.marks.now) c.loop-refused.edges (c.args.a + 1) c.loop-refused.count c.loop-refused.vert c.loop-refused.succ c.loop-refused.pred c.place-s.result c.place-e.result (Joins c.in-Joins.piece c.in-Joins.third))) = found _ c.in-Joins.is in
+    let found : (r : Look) → c.look_at.result ≡ r → (Looked (may_join (points_of c.args.coords.now)) c.loop-refused.edges (c.args.a + 1) c.loop-refused.count c.loop-refused.vert c.loop-refused.succ c.loop-refused.pred c.place-s.result c.place-e.result r) = λ r is. looked_is _ _ _ _ _ _ _ _ _ c.look_at.result is c.look_at.ensures in
+    let joining : ((Looked (may_join (points_of c.args.coords.now)) c.loop-refused.edges (c.args.a + 1) c.loop-refused.count c.loop-refused.vert c.loop-refused.succ c.loop-refused.pred c.place-s.result c.place-e.result (Joins c.in-Joins.piece c.in-Joins.third))) = found _ c.in-Joins.is in
     let range : (c.args.a + 1 ≤ c.in-Joins.piece) × (c.in-Joins.piece < c.loop-refused.count) = piece_range turning _ _ joining in
     omega (arith, range, live_low c.loop-refused.invariant, len_low c.loop-refused.invariant, c.loop-refused-test.true)
 
 pub loop-refused-preserved : goal.loop-refused-preserved
 loop-refused-preserved c =
-    let turning : (Turn (may_join (points_of c.args.coords.now) c.args.marks.now) (length (points_of c.args.coords.now)) c.args.edges.now c.args.a c.args.given
+    let turning : (Turn (may_join (points_of c.args.coords.now)) (length (points_of c.args.coords.now)) c.args.edges.now c.args.a c.args.given
     c.loop-refused.edges c.loop-refused.eights c.loop-refused.vert c.loop-refused.succ c.loop-refused.pred c.loop-refused.queue
     c.loop-refused.count c.loop-refused.start c.loop-refused.len c.loop-refused.head c.loop-refused.live c.loop-refused.refused c.place-s.result c.place-e.result) = record { growing = c.loop-refused.invariant; more = c.loop-refused-test.true; is_s = c.place-s.ensures; is_e = c.place-e.ensures } in
-    let found : (r : Look) → c.look_at.result ≡ r → (Looked (may_join (points_of c.args.coords.now) c.args.marks.now) c.loop-refused.edges (c.args.a + 1) c.loop-refused.count c.loop-refused.vert c.loop-refused.succ c.loop-refused.pred c.place-s.result c.place-e.result r) = λ r is. looked_is _ _ _ _ _ _ _ _ _ c.look_at.result is c.look_at.ensures in
-    let joining : ((Looked (may_join (points_of c.args.coords.now) c.args.marks.now) c.loop-refused.edges (c.args.a + 1) c.loop-refused.count c.loop-refused.vert c.loop-refused.succ c.loop-refused.pred c.place-s.result c.place-e.result (Joins c.in-Joins.piece c.in-Joins.third))) = found _ c.in-Joins.is in
+    let found : (r : Look) → c.look_at.result ≡ r → (Looked (may_join (points_of c.args.coords.now)) c.loop-refused.edges (c.args.a + 1) c.loop-refused.count c.loop-refused.vert c.loop-refused.succ c.loop-refused.pred c.place-s.result c.place-e.result r) = λ r is. looked_is _ _ _ _ _ _ _ _ _ c.look_at.result is c.look_at.ensures in
+    let joining : ((Looked (may_join (points_of c.args.coords.now)) c.loop-refused.edges (c.args.a + 1) c.loop-refused.count c.loop-refused.vert c.loop-refused.succ c.loop-refused.pred c.place-s.result c.place-e.result (Joins c.in-Joins.piece c.in-Joins.third))) = found _ c.in-Joins.is in
     grow_joined turning _ _ joining c.take_out.ensures.edges_after c.take_out.ensures.eights_after c.put_between.ensures.vert_after c.put_between.ensures.succ_after c.put_between.ensures.pred_after c.narrow-in-Joins.ensures c.narrow-in-Joins-2.ensures
 
 pub returns : goal.returns

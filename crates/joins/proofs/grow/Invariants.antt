@@ -8,7 +8,7 @@ use Rattle.joins.proofs.grow.Given as goal
 
 abbrev pub invariant-loop-refused : goal.invariant-loop-refused
 invariant-loop-refused l =
-    Growing (may_join (points_of l.coords) l.marks) (length (points_of l.coords)) l.initial.edges l.a l.given l.edges l.eights l.vert l.succ l.pred l.queue l.count l.start l.len l.head l.live l.refused
+    Growing (may_join (points_of l.coords)) (length (points_of l.coords)) l.initial.edges l.a l.given l.edges l.eights l.vert l.succ l.pred l.queue l.count l.start l.len l.head l.live l.refused
 
 abbrev pub decreases-loop-refused : goal.decreases-loop-refused
 decreases-loop-refused l =

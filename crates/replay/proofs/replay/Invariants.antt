@@ -1,4 +1,4 @@
--- Each record has at least 32 bytes, and at most 2048 inputs.
+-- Each record has at least 28 bytes, and at most 2048 inputs.
 use Rattle.std.proofs.Common.{◌+◌, ◌*◌, ◌≤◌, length}
 use Rattle.replay.proofs.replay.Given as goal
 

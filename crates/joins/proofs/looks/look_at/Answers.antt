@@ -11,7 +11,7 @@ returns-in_default c =
 
 pub may_join-requires : goal.may_join-requires
 may_join-requires c =
-    let third = third_low (may_join (points_of c.args.coords.now) c.args.marks.now) _ _ _ c.args.vert.now c.args.succ.now c.args.pred.now c.args.s c.args.e _ _
+    let third = third_low (may_join (points_of c.args.coords.now)) _ _ _ c.args.vert.now c.args.succ.now c.args.pred.now c.args.s c.args.e _ _
     c.place-at_s.ensures c.place-at_e.ensures _ c.find_mate-m.ensures _ _ c.in-Is.is _ c.requires.each.0 in
     record { coords_value = c.requires.coords_value; before_in_bounds = (omega (arith, c.requires.readable.at_before.corner, c.corner_beyond-before.ensures), omega (arith, c.requires.readable.at_s.corner, c.place-at_s.ensures), third); e_in_bounds = (omega (arith, c.requires.readable.at_e.corner, c.place-at_e.ensures), omega (arith, c.requires.readable.at_after.corner, c.corner_beyond-after.ensures)) }
 
