@@ -1,8 +1,10 @@
-// What every entry shares: document 01's limits, the form of an answer, room for the most that is accepted, and small steps on plain values.
+// What every entry shares: document 01's limits, why it refuses, and the form of an answer to C.
 #![tactic(auto)]
 
-ghost use Rattle.std.specs.Prelude.{◌≡◌, ◌||◌, ◌<◌, length, replicate};
-ghost use Rattle.rules.specs.Limits.{most_coordinates, most_triangles, most_indices};
+ghost use Rattle.std.specs.Prelude.{◌≡◌};
+ghost use Rattle.entries.specs.Refusals.{number_of, answer_of};
+
+use std::fmt;
 
 // Of an outline.
 pub const MOST_POINTS: usize = 512;
@@ -14,7 +16,61 @@ pub const MOST_TRIANGLES: usize = MOST_POINTS - 2;
 
 pub const MOST_INDICES: usize = 3 * MOST_TRIANGLES;
 
-// Document 01's number, and the count of triangles or pieces that are reported: 0 beside a refusal.
+// Why an input is refused.
+#[derive(Clone, Copy, Debug, PartialEq, Eq)]
+pub enum Refusal {
+    OddCoordinates,
+    TooFewPoints,
+    TooManyPoints,
+    // A coordinate, or the asked point.
+    OffGrid,
+    EqualNeighbours,
+    // A lent buffer is too short.
+    TooLittleRoom,
+    NoEar,
+    // The length of a list of triangles is no multiple of three.
+    NotTriples,
+    // An index of a triangle is not below the number of points.
+    NoSuchPoint,
+    TooManyTriangles,
+    // A line.
+    NotInForm,
+    OnOneLine,
+    AreaNotAboveZero,
+}
+
+// Document 01's number.
+impl From<Refusal> for u32 {
+    ghost from_gives = { λ refusal number. number ≡ number_of refusal };
+
+    fn from(refusal: Refusal) -> u32 {
+        match refusal {
+            Refusal::OddCoordinates => 1,
+            Refusal::TooFewPoints => 2,
+            Refusal::TooManyPoints => 3,
+            Refusal::OffGrid => 4,
+            Refusal::EqualNeighbours => 5,
+            Refusal::TooLittleRoom => 6,
+            Refusal::NoEar => 7,
+            Refusal::NotTriples => 8,
+            Refusal::NoSuchPoint => 9,
+            Refusal::TooManyTriangles => 10,
+            Refusal::NotInForm => 11,
+            Refusal::OnOneLine => 12,
+            Refusal::AreaNotAboveZero => 13,
+        }
+    }
+}
+
+// A refusal is told by its number.
+impl fmt::Display for Refusal {
+    fn fmt<W: fmt::Write>(&self, f: &mut fmt::Formatter<W>) -> fmt::Result {
+        write!(f, "{}", u32::from(*self))
+    }
+}
+
+// What C is told: document 01's number, 0 where nothing is refused, and the count of triangles, pieces, corners or bytes that are reported,
+// 0 beside a refusal.
 #[repr(C)]
 #[derive(Clone, Copy)]
 pub struct Answer {
@@ -22,68 +78,16 @@ pub struct Answer {
     pub count: u32,
 }
 
-// Room for the indices of the most triangles.
-pub fn zeros() -> [u32; MOST_INDICES]
-    ensures result_len { length result ≡ most_indices }
-    ensures value { result ≡ replicate most_indices 0 }
-{
-    [0u32; MOST_INDICES]
-}
+impl From<Result<u32, Refusal>> for Answer {
+    ghost from_gives = { λ outcome answer. answer ≡ answer_of outcome };
 
-// The lengths of the most triangles, and room for those of as many pieces.
-pub fn threes() -> [u32; MOST_TRIANGLES]
-    ensures result_len { length result ≡ most_triangles }
-    ensures value { result ≡ replicate most_triangles 3 }
-{
-    [3u32; MOST_TRIANGLES]
-}
-
-// Room for the coordinates of the most points.
-pub fn no_floats() -> [f32; MOST_COORDINATES]
-    ensures { length result ≡ most_coordinates }
-{
-    [0.0f32; MOST_COORDINATES]
-}
-
-pub fn either(s: bool, t: bool) -> bool
-    ensures { result ≡ (s || t) }
-{
-    if s { true } else { t }
-}
-
-// A byte as a word.
-pub fn wide_byte(x: u8) -> u32
-    ensures value { result ≡ x }
-    ensures upper_bound { result < 256 }
-{
-    x as u32
-}
-
-// Half a word as a word.
-pub fn wide_half(x: u16) -> u32
-    ensures { result ≡ x }
-{
-    x as u32
-}
-
-// Half a word as a place.
-pub fn place(x: u16) -> usize
-    ensures { result ≡ x }
-{
-    x as usize
-}
-
-// A place as half a word.
-pub fn narrow(x: usize) -> u16
-    requires { x < 512 }
-    ensures { result ≡ x }
-{
-    x as u16
-}
-
-// A word as a place or a size.
-pub fn wide(x: u32) -> usize
-    ensures { result ≡ x }
-{
-    x as usize
+    fn from(outcome: Result<u32, Refusal>) -> Answer {
+        match outcome {
+            Ok(count) => Answer { number: 0, count },
+            Err(refusal) => Answer {
+                number: refusal.into(),
+                count: 0,
+            },
+        }
+    }
 }

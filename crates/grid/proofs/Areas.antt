@@ -1,7 +1,7 @@
 -- The loop that adds up an outline's doubled area: what an edge adds, and how large the sum is.
 use Prim.Native.Nat.{ℕ, ◌+◌, ◌*◌, ◌^◌, ◌≤◌, ◌<◌}
 use mathlib.Core.Path.{◌≡◌, sym, ap, ◌∙◌}
-use mathlib.Core.Bool.{true, false}
+use mathlib.Core.Bool.{false}
 use mathlib.Core.List.{List, [], ◌∷◌}
 use native.Mathlib.Omega.{arith}
 use lib.Dec.{T, lit≤}
@@ -18,7 +18,8 @@ use Rattle.rules.specs.Limits.{most_points}
 use Rattle.rules.specs.Plane.{Pt, cross, point}
 use Rattle.rules.specs.Measure.{area2}
 use Rattle.grid.specs.declared.point.Point.{Point}
-use Rattle.grid.specs.Points.{on_grid_pt, pt_of}
+use Rattle.grid.specs.Points.{pt_of}
+use Rattle.grid.proofs.OnGrid.{is_on}
 use Rattle.grid.proofs.Value.{Within, signed_back, sub_within, mul-within}
 use Rattle.grid.proofs.Canon.{add_zero_canon}
 use Rattle.grid.proofs.Turn.{pt_within}
@@ -27,36 +28,35 @@ use Rattle.grid.proofs.Walks.{edge, Walk, walk_first, walk_more, walk_last}
 -- ---- what an edge adds
 
 -- a product of two coordinates is at most 2^20 in size, and the difference of two such at most 2^21
-product_within : (a b : Point) → on_grid_pt a ≡ true → on_grid_pt b ≡ true
-    → Within (2 ^ 21) (sub binary32 (mul binary32 a.x b.y) (mul binary32 a.y b.x)) (cross (pt_of a) (pt_of b))
-product_within a b ha hb =
-    let A = pt_within a ha in
-    let B = pt_within b hb in
+product_within : (a b : Point) → Within (2 ^ 21) (sub binary32 (mul binary32 a.x b.y) (mul binary32 a.y b.x)) (cross (pt_of a) (pt_of b))
+product_within a b =
+    let A = pt_within a (is_on a) in
+    let B = pt_within b (is_on b) in
     sub_within binary32 (mul-within binary32 A.0 B.1 (lit≤ tt)) (mul-within binary32 A.1 B.0 (lit≤ tt)) (lit≤ tt)
 
-edge_small : (a b : Point) → on_grid_pt a ≡ true → on_grid_pt b ≡ true → nat_abs (cross (pt_of a) (pt_of b)) ≤ 2 ^ 21
-edge_small a b ha hb = (product_within a b ha hb).small
+edge_small : (a b : Point) → nat_abs (cross (pt_of a) (pt_of b)) ≤ 2 ^ 21
+edge_small a b = (product_within a b).small
 
 -- a number of at most 2^30 in size stands in 32 bits
 stands : (z : ℤ) → nat_abs z ≤ 2 ^ 30 → SFits w32 z
 stands (pos n) h = record { sfits = omega arith }
 stands (negsuc n) h = record { sfits = omega arith }
 
-module _ (a b : Point) (ha : on_grid_pt a ≡ true) (hb : on_grid_pt b ≡ true) {x : Float} (is : x ≡ sub binary32 (mul binary32 a.x b.y) (mul binary32 a.y b.x)) where
+module _ (a b : Point) {x : Float} (is : x ≡ sub binary32 (mul binary32 a.x b.y) (mul binary32 a.y b.x)) where
   own : add binary32 x (fin false 0 (pos 0)) ≡ of_int binary32 (cross (pt_of a) (pt_of b))
-  own = rw is (add_zero_canon binary32 (product_within a b ha hb).is)
+  own = rw is (add_zero_canon binary32 (product_within a b).is)
 
   back : T (in_signed binary32 31 (of_int binary32 (cross (pt_of a) (pt_of b)))) × (to_signed 31 (of_int binary32 (cross (pt_of a) (pt_of b))) ≡ cross (pt_of a) (pt_of b))
-  back = signed_back (cross (pt_of a) (pt_of b)) (omega (arith, edge_small a b ha hb))
+  back = signed_back (cross (pt_of a) (pt_of b)) (omega (arith, edge_small a b))
 
   pub edge_whole : T (in_signed binary32 31 (add binary32 x (fin false 0 (pos 0))))
   edge_whole = rw own back.0
 
   pub edge_is : to_z w32 (of_z w32 (to_signed 31 (add binary32 x (fin false 0 (pos 0))))) ≡ cross (pt_of a) (pt_of b)
-  edge_is = rw (own, back.1) (to_z-of_z w32 (cross (pt_of a) (pt_of b)) (stands (cross (pt_of a) (pt_of b)) (omega (arith, edge_small a b ha hb))))
+  edge_is = rw (own, back.1) (to_z-of_z w32 (cross (pt_of a) (pt_of b)) (stands (cross (pt_of a) (pt_of b)) (omega (arith, edge_small a b))))
 
   pub edge_low : nat_abs (to_z w32 (of_z w32 (to_signed 31 (add binary32 x (fin false 0 (pos 0)))))) ≤ 2 ^ 21
-  edge_low = rw edge_is (edge_small a b ha hb)
+  edge_low = rw edge_is (edge_small a b)
 
 -- ---- the sum
 
@@ -82,8 +82,8 @@ pub record Summed (ps : List Pt) (a : Point) (sum : ℤ) (i : ℕ) : Type 0 wher
   pub small : nat_abs sum + 2 ^ 21 ≤ 2 ^ 21 * i
   pub passed : i ≤ length ps
 
-pub summed_first : (ps : List Pt) (f : Point) → on_grid_pt f ≡ true → pt_of f ≡ point ps 0 → 0 < length ps → Summed ps f (pos 0) 1
-summed_first ps f on e h = record { walk = walk_first ps (Adds ps (pos 0)) f on e h (none_added ps); small = lit≤ tt; passed = h }
+pub summed_first : (ps : List Pt) (f : Point) → pt_of f ≡ point ps 0 → 0 < length ps → Summed ps f (pos 0) 1
+summed_first ps f e h = record { walk = walk_first ps (Adds ps (pos 0)) f e h (none_added ps); small = lit≤ tt; passed = h }
 
 -- one edge more, as the code adds it in 32 bits
 module _ (ps : List Pt) {a : Point} {sum : ℤ} {i : ℕ} (s : Summed ps a sum i) (few : length ps ≤ most_points) (z : ℤ) (low : nat_abs z ≤ 2 ^ 21) where
@@ -103,9 +103,9 @@ module _ (ps : List Pt) {a : Point} {sum : ℤ} {i : ℕ} (s : Summed ps a sum i
     read_back : to_z w32 (of_z w32 added) ≡ sum +ℤ cross (pt_of a) (pt_of b)
     read_back = to_z-of_z w32 added added_fits ∙ added_is ∙ ap (λ (y : ℤ). sum +ℤ y) is
 
-    pub summed_more : on_grid_pt b ≡ true → i < length ps → pt_of b ≡ point ps i → Summed ps b (to_z w32 (of_z w32 added)) (i + 1)
-    summed_more on h e = record {
-      walk = rw read_back (walk_more ps (Adds ps sum) s.walk (Adds ps (sum +ℤ cross (pt_of a) (pt_of b))) h b on e (edge_added ps a b sum));
+    pub summed_more : i < length ps → pt_of b ≡ point ps i → Summed ps b (to_z w32 (of_z w32 added)) (i + 1)
+    summed_more h e = record {
+      walk = rw read_back (walk_more ps (Adds ps sum) s.walk (Adds ps (sum +ℤ cross (pt_of a) (pt_of b))) h b e (edge_added ps a b sum));
       small = rw (to_z-of_z w32 added added_fits) (omega (arith, added_small));
       passed = omega arith;
     }

@@ -1,8 +1,9 @@
-pub mod Value
+pub mod Areas
 pub mod Canon
-pub mod Turn
 pub mod GridTest
+pub mod OnGrid
 pub mod Sides
 pub mod Triangle
+pub mod Turn
+pub mod Value
 pub mod Walks
-pub mod Areas

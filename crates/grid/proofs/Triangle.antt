@@ -1,19 +1,10 @@
 -- The triangle test by the directions at its three sides, and points read from coordinates.
 use mathlib.Core.Path.{◌≡◌, ◌∙◌, ap}
-use mathlib.Core.Bool.{Bool, true, false, not, ◌&&◌, ◌||◌}
-use mathlib.Core.List.{List}
-use Prim.Native.Nat.{ℕ, ◌+◌, ◌*◌, ◌<◌}
-use native.Mathlib.Omega.{arith}
-use lib.ListN.{length, get_or}
-use lib.Ieee.{Float, nan}
-use Rattle.rules.specs.Plane.{Pt, turn, left, right, in_triangle, point}
-use Rattle.rules.specs.Grid.{points_of}
-use Rattle.rules.specs.Refusals.{off_grid}
+use mathlib.Core.Bool.{Bool, not, ◌&&◌, ◌||◌}
+use Rattle.rules.specs.Plane.{Pt, turn, left, right, in_triangle}
 use Rattle.rules.proofs.Turns.{turn_rotates}
-use Rattle.rules.proofs.Coordinates.{point_is, grid_at}
-use Rattle.grid.specs.declared.point.Point.{Point}
 use Rattle.grid.specs.declared.point_in_triangle.Orientation.{Orientation}
-use Rattle.grid.specs.Points.{on_grid_pt, pt_of, orientation, is_ccw, is_cw}
+use Rattle.grid.specs.Points.{orientation, is_ccw, is_cw}
 use Rattle.grid.proofs.Turn.{ccw_left, cw_right}
 
 -- the direction that p, a, b take is that of a, b, p
@@ -29,10 +20,3 @@ module _
   pub in_triangle_lem : not (ccw && cw) ≡ in_triangle a b c p
   in_triangle_lem =
       rw (has-cw, has-ccw, side_left p a b d₁ e₁, side_left p b c d₂ e₂, side_left p c a d₃ e₃, side_right p a b d₁ e₁, side_right p b c d₂ e₂, side_right p c a d₃ e₃)
-
--- a point that stands at its two places of the coordinates
-pub point-on :
-    (cs : List Float) (i : ℕ) → off_grid cs ≡ false → i * 2 + 1 < length cs → (p : Point) → p.x ≡ get_or cs (i * 2) nan → p.y ≡ get_or cs (i * 2 + 1) nan
-    → (on_grid_pt p ≡ true) × (pt_of p ≡ point (points_of cs) i)
-unfolding on_grid_pt
-point-on cs i g h p a b = (rw (a, b, grid_at cs (i * 2) g (omega arith), grid_at cs (i * 2 + 1) g h), rw (a, b) (point_is cs i h))

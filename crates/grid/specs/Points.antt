@@ -29,8 +29,3 @@ abbrev pub is_cw : Orientation → Bool
 is_cw Ccw = false
 is_cw Cw = true
 is_cw None = false
-
--- the coordinates are on the grid, and every index of the store is one of a point
-pub record Known (coords : List Float) (store : List ℕ) : Type 0 where
-  pub on_grid : off_grid coords ≡ false
-  pub below : Each (λ i. i < length (points_of coords)) store

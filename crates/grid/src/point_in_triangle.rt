@@ -6,7 +6,7 @@ ghost use Rattle.grid.specs.Points.{on_grid_pt, pt_of, orientation, is_ccw, is_c
 use crate::point::Point;
 
 // The orientation of a corner.
-#[derive(Clone, Copy)]
+#[derive(Clone, Copy, Debug, PartialEq, Eq)]
 pub enum Orientation {
     // Counter-clockwise: a left turn.
     Ccw,
@@ -20,29 +20,18 @@ impl Orientation {
     pub fn is_ccw(self) -> bool
         ensures { result ≡ is_ccw self }
     {
-        match self {
-            Orientation::Ccw => true,
-            Orientation::Cw => false,
-            Orientation::None => false,
-        }
+        self == Orientation::Ccw
     }
 
     pub fn is_cw(self) -> bool
         ensures { result ≡ is_cw self }
     {
-        match self {
-            Orientation::Ccw => false,
-            Orientation::Cw => true,
-            Orientation::None => false,
-        }
+        self == Orientation::Cw
     }
 }
 
 // The direction of a line through p1, p2 and p3.
 pub fn corner_direction(p1: Point, p2: Point, p3: Point) -> Orientation
-    requires p1_value { on_grid_pt p1 ≡ true }
-    requires p2_value { on_grid_pt p2 ≡ true }
-    requires p3_value { on_grid_pt p3 ≡ true }
     ensures { result ≡ orientation (turn (pt_of p1) (pt_of p2) (pt_of p3)) }
 {
     let v1 = p1.minus(p2);
@@ -57,33 +46,14 @@ pub fn corner_direction(p1: Point, p2: Point, p3: Point) -> Orientation
     }
 }
 
-fn any_of(a: bool, b: bool, c: bool) -> bool
-    ensures { result ≡ (a || b || c) }
-{
-    if a {
-        return true;
-    }
-    if b {
-        return true;
-    }
-    c
-}
-
 // Whether p is in the triangle with corners v1, v2 and v3, its border included.
 pub fn is_point_in_triangle(p: Point, v1: Point, v2: Point, v3: Point) -> bool
-    requires p_value { on_grid_pt p ≡ true }
-    requires v1_value { on_grid_pt v1 ≡ true }
-    requires v2_value { on_grid_pt v2 ≡ true }
-    requires v3_value { on_grid_pt v3 ≡ true }
     ensures { result ≡ in_triangle (pt_of v1) (pt_of v2) (pt_of v3) (pt_of p) }
 {
     let d1 = corner_direction(p, v1, v2);
     let d2 = corner_direction(p, v2, v3);
     let d3 = corner_direction(p, v3, v1);
-    let has_cw = any_of(d1.is_cw(), d2.is_cw(), d3.is_cw());
-    let has_ccw = any_of(d1.is_ccw(), d2.is_ccw(), d3.is_ccw());
-    if has_ccw {
-        return !has_cw;
-    }
-    true
+    let has_cw = d1.is_cw() | d2.is_cw() | d3.is_cw();
+    let has_ccw = d1.is_ccw() | d2.is_ccw() | d3.is_ccw();
+    !(has_cw & has_ccw)
 }

@@ -1,5 +1,5 @@
 -- Words in bytes: four each, low byte first. Bytes past the last whole four are no word.
-use Rattle.std.specs.Prelude.{ℕ, ◌+◌, ◌*◌, ◌/◌, ◌%◌, List, [], ◌∷◌, map, get_or, set, false, cond, pos, Float}
+use Rattle.std.specs.Prelude.{ℕ, ◌+◌, ◌*◌, ◌/◌, ◌%◌, List, [], ◌∷◌, map, get_or, false, cond, pos, Float}
 use Rattle.std.specs.Float.{fin, binary32}
 use Rattle.std.specs.Float.Ieee.{of_bits, to_bits, le}
 
@@ -23,10 +23,6 @@ bytes_of (w ∷ rest) = (w % 256) ∷ (w / 256 % 256) ∷ (w / 65536 % 256) ∷ 
 abbrev pub bits_of : Float → ℕ
 bits_of x = cond (le (fin false 0 (pos 0)) x) (to_bits binary32 x) 4294967295
 
--- ---- the code's steps
-
+-- word number i
 abbrev pub word_at : List ℕ → ℕ → ℕ
 word_at bytes i = get_or bytes (i * 4) 0 + get_or bytes (i * 4 + 1) 0 * 256 + get_or bytes (i * 4 + 2) 0 * 65536 + get_or bytes (i * 4 + 3) 0 * 16777216
-
-abbrev pub put4 : List ℕ → ℕ → ℕ → List ℕ
-put4 bytes i w = set (set (set (set bytes (i * 4) (w % 256)) (i * 4 + 1) (w / 256 % 256)) (i * 4 + 2) (w / 65536 % 256)) (i * 4 + 3) (w / 16777216 % 256)

@@ -1,37 +1,33 @@
-// Numbers in slices: copied, and read from and written to bytes, four each, low byte first.
+// Numbers in bytes, four each, low byte first: read from slices and written to them.
 #![tactic(auto)]
 
-ghost use Rattle.std.specs.Prelude.{◌≡◌, ◌++◌, ◌+◌, ◌*◌, ◌/◌, ◌≤◌, ◌<◌, length, take, drop};
+ghost use Rattle.std.specs.Prelude.{◌≡◌, ℕ, ◌++◌, ◌+◌, ◌*◌, ◌/◌, ◌≤◌, ◌<◌, length, map, drop};
 ghost use Rattle.std.specs.Float.{binary32};
 ghost use Rattle.std.specs.Float.Ieee.{of_bits};
 ghost use Rattle.rules.specs.Layout.{over};
-ghost use Rattle.words.specs.Bytes.{word_at, words_of, floats_of, bytes_of, bits_of, put4};
+ghost use Rattle.words.specs.Bytes.{word_at, words_of, bytes_of, bits_of};
 
-use entries::wide_byte;
+// What a word stands for.
+pub trait FromWord: Copy {
+    ghost of_word: { ℕ → Self };
 
-// Copies all of `from` to the front of `to`.
-pub fn copy(from: &[u32], to: &mut [u32])
-    requires { length from.now ≤ length to.old }
-    ensures { to.new ≡ over from.now to.old }
-{
-    let n = from.len();
-    let mut i = 0;
-    while i < n {
-        to[i] = from[i];
-        i += 1;
+    fn from_word(word: u32) -> Self
+        ensures { result ≡ of_word word };
+}
+
+impl FromWord for u32 {
+    ghost of_word = { λ word. word };
+
+    fn from_word(word: u32) -> u32 {
+        word
     }
 }
 
-// Copies all of `from` to the front of `to`.
-pub fn copy_floats(from: &[f32], to: &mut [f32])
-    requires { length from.now ≤ length to.old }
-    ensures { to.new ≡ over from.now to.old }
-{
-    let n = from.len();
-    let mut i = 0;
-    while i < n {
-        to[i] = from[i];
-        i += 1;
+impl FromWord for f32 {
+    ghost of_word = { of_bits binary32 };
+
+    fn from_word(word: u32) -> f32 {
+        float(word)
     }
 }
 
@@ -41,10 +37,7 @@ pub fn word(bytes: &[u8], i: usize) -> u32
     ensures { result ≡ word_at bytes.now i }
 {
     let k = i * 4;
-    wide_byte(bytes[k])
-        + wide_byte(bytes[k + 1]) * 256
-        + wide_byte(bytes[k + 2]) * 65536
-        + wide_byte(bytes[k + 3]) * 16777216
+    u32::from_le_bytes([bytes[k], bytes[k + 1], bytes[k + 2], bytes[k + 3]])
 }
 
 // The float with these bits; every pattern of a NaN is one NaN.
@@ -68,52 +61,23 @@ pub fn bits(x: f32) -> u32
     }
 }
 
-// Reads the words, as floats, to the front of `floats`.
-pub fn read_floats(bytes: &[u8], floats: &mut [f32])
-    requires { length bytes.now / 4 ≤ length floats.old }
-    ensures { floats.new ≡ floats_of bytes.now ++ drop (length bytes.now / 4) floats.old }
+// Reads the words to the front of `to`.
+pub fn read<T: FromWord>(bytes: &[u8], to: &mut [T])
+    requires { length bytes.now / 4 ≤ length to.old }
+    ensures { to.new ≡ map T.of_word (words_of bytes.now) ++ drop (length bytes.now / 4) to.old }
 {
-    let n = bytes.len() / 4;
-    let mut i = 0;
-    while i < n {
-        floats[i] = float(word(bytes, i));
-        i += 1;
+    for i in 0..bytes.len() / 4 {
+        to[i] = T::from_word(word(bytes, i));
     }
 }
 
-// Reads the words to the front of `words`.
-pub fn read_words(bytes: &[u8], words: &mut [u32])
-    requires { length bytes.now / 4 ≤ length words.old }
-    ensures { words.new ≡ words_of bytes.now ++ drop (length bytes.now / 4) words.old }
+// Writes the words to the front of the bytes.
+pub fn write(words: &[u32], bytes: &mut [u8])
+    requires { length words.now * 4 ≤ length bytes.old }
+    ensures { bytes.new ≡ over (bytes_of words.now) bytes.old }
 {
-    let n = bytes.len() / 4;
-    let mut i = 0;
-    while i < n {
-        words[i] = word(bytes, i);
-        i += 1;
-    }
-}
-
-// Writes a word at place i.
-fn put(bytes: &mut [u8], i: usize, w: u32)
-    requires { i * 4 + 3 < length bytes.old }
-    ensures { bytes.new ≡ put4 bytes.old i w }
-{
-    let k = i * 4;
-    bytes[k] = (w % 256) as u8;
-    bytes[k + 1] = (w / 256 % 256) as u8;
-    bytes[k + 2] = (w / 65536 % 256) as u8;
-    bytes[k + 3] = (w / 16777216 % 256) as u8;
-}
-
-// Writes the first n words to the front of the bytes.
-pub fn write_words(words: &[u32], n: usize, bytes: &mut [u8])
-    requires { (n ≤ length words.now) × (n * 4 ≤ length bytes.old) }
-    ensures { bytes.new ≡ over (bytes_of (take n words.now)) bytes.old }
-{
-    let mut i = 0;
-    while i < n {
-        put(bytes, i, words[i]);
-        i += 1;
+    for (i, word) in words.iter().enumerate() {
+        let k = i * 4;
+        bytes[k..k + 4].copy_from_slice(&word.to_le_bytes());
     }
 }

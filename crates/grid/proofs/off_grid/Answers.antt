@@ -1,10 +1,9 @@
 use Prim.Native.Nat.{ℕ, ◌+◌, ◌≤◌, ◌<◌}
-use mathlib.Core.Path.{◌≡◌, sym, ◌∙◌}
+use mathlib.Core.Path.{◌≡◌, refl, sym, ◌∙◌}
 use mathlib.Core.Bool.{Bool, not, ◌||◌, or-false, or_assoc}
 use mathlib.Core.List.{List}
 use lib.ListN.{length, get_or, drop, drop_of_length-le}
 use lib.Ieee.{Float, nan}
-use borrow.Author.Rules.{rules}
 use Rattle.algebra.proofs.Lists.{any_next}
 use Rattle.rules.specs.Grid.{on_grid}
 use Rattle.rules.specs.Refusals.{off_grid}
@@ -23,9 +22,8 @@ at-end : (cs : List Float) (i : ℕ) → length cs ≤ i → (off : Bool) → (o
 unfolding off_grid
 at-end cs i h off = rw (drop_of_length-le cs h) (or-false off)
 
-pub loop-i-preserved : goal.loop-i-preserved
-loop-i-preserved c =
-    (search rules, c.loop-i.invariant.1 ∙ more _ _ c.loop-i-test.true c.loop-i.off _ _ c.on_grid.ensures c.either-off.ensures)
+pub loop-c-preserved : goal.loop-c-preserved
+loop-c-preserved c = c.loop-c.invariant ∙ more _ _ c.loop-c-test.true c.loop-c.off _ _ c.on_grid.ensures refl
 
 pub returns : goal.returns
-returns c = sym (c.loop-i.invariant.1 ∙ at-end _ _ c.loop-i-test.false c.loop-i.off)
+returns c = sym (c.loop-c.invariant ∙ at-end _ _ c.loop-c-test.false c.loop-c.off)

@@ -1,7 +1,13 @@
 -- `point_at` meets its contract.
-use mathlib.Core.Path.{refl}
-use Rattle.grid.proofs.Triangle.{point-on}
+use native.Mathlib.Omega.{arith}
+use Rattle.rules.proofs.Coordinates.{point_is, grid_at}
 use Rattle.grid.proofs.point_at.Goals as goal
 
+pub invariant_of-result : goal.invariant_of-result
+invariant_of-result c = record {
+  x_on_grid = grid_at c.args.coords.now _ c.requires.on_grid (omega (arith, c.requires.in_bounds));
+  y_on_grid = grid_at c.args.coords.now _ c.requires.on_grid c.requires.in_bounds;
+}
+
 pub returns : goal.returns
-returns c = let told = point-on _ _ c.requires.coords_value c.requires.i_in_bounds _ refl refl in record { result_value = told.0; result_value_2 = told.1 }
+returns c = point_is _ _ c.requires.in_bounds

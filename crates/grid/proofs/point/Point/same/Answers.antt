@@ -1,11 +1,12 @@
 -- `same` meets its contract: on the grid, floats are equal where their whole numbers are.
-use mathlib.Core.Path.{◌≡◌, refl}
+use mathlib.Core.Path.{◌≡◌, refl, ◌∙◌}
 use mathlib.Core.Bool.{Bool, true, ◌&&◌}
 use lib.Ieee.{eq}
 use Rattle.rules.specs.Plane.{same}
 use Rattle.grid.specs.declared.point.Point.{Point}
 use Rattle.grid.specs.Points.{on_grid_pt, pt_of}
 use Rattle.grid.proofs.Value.{eq_is}
+use Rattle.grid.proofs.OnGrid.{is_on}
 use Rattle.grid.proofs.Turn.{pt_within}
 use Rattle.grid.proofs.point.Point.same.Goals as goal
 
@@ -18,7 +19,8 @@ by_coordinates a b ha hb e f =
 
 pub returns-then-self-o : goal.returns-then-self-o
 returns-then-self-o c =
-    by_coordinates c.args.self c.args.o c.requires.self_value c.requires.o_value c.if-self-o.true refl
+    by_coordinates c.args.self c.args.o (is_on c.args.self) (is_on c.args.o) c.if-self-o.true refl
 
-pub returns : goal.returns
-returns c = by_coordinates c.args.self c.args.o c.requires.self_value c.requires.o_value c.if-self-o.false refl
+pub returns-else-self-o : goal.returns-else-self-o
+returns-else-self-o c =
+    c.if-self-o.false ∙ by_coordinates c.args.self c.args.o (is_on c.args.self) (is_on c.args.o) c.if-self-o.false refl

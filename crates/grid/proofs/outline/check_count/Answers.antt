@@ -1,11 +1,11 @@
--- `count_refusal` meets its contract, row by row.
+-- `check_count` meets its contract, row by row.
 use Prim.Native.Nat.{ℕ, ◌/◌, ◌%◌, ◌≤◌, ◌<◌}
 use mathlib.Core.Path.{◌≡◌, sym, ◌∙◌}
 use borrow.Author.Tests.{eq-eqb, ne_eqb, lt-ltb, le-ltb}
 use lib.ListN.{drop}
 use Rattle.rules.specs.Refusals.{first_refusal, count_checks}
 use Rattle.rules.proofs.Rows.{row_on, row_off, no_rows}
-use Rattle.grid.proofs.outline.count_refusal.Goals as goal
+use Rattle.grid.proofs.outline.check_count.Goals as goal
 
 module _ (least most n : ℕ) where
   abbrev number : ℕ
