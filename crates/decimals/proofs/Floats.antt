@@ -6,11 +6,11 @@ use native.Mathlib.Omega.{arith}
 use lib.Dec.{T}
 use lib.IntN.{ℤ, pos, negsuc, neg_ℤ, nat_abs, +ℤ_idl}
 use lib.Signed.{lt_z}
-use lib.Ieee.{Float, fin, binary32, of_bits, of_int, add, sub, lt, in_float, in_unsigned, to_unsigned, round}
+use lib.Ieee.{Float, fin, binary32, of_bits, of_int, add, sub, lt, in_unsigned, to_unsigned, round}
 use borrow.Author.Tests.{ltb-true}
 use Rattle.rules.specs.Limits.{grid_edge}
 use Rattle.rules.specs.Grid.{whole_of, on_grid}
-use Rattle.grid.proofs.Value.{Is, Within, of_int_is, in_float_lem, whole_back}
+use Rattle.grid.proofs.Value.{Is, Within, of_int_is, whole_back}
 use Rattle.grid.proofs.Turn.{grid_within, below_zero}
 use Rattle.grid.proofs.Canon.{sub_canon, add_zero_canon}
 
@@ -29,9 +29,6 @@ zero_minus : {x : Float} {z : ℤ} → Is x z → sub binary32 (of_bits binary32
 zero_minus {x} {z} i = ap (λ (y : Float). sub binary32 y x) zero_float ∙ sub_canon binary32 (pos 0) (omega arith) i ∙ ap (of_int binary32) (+ℤ_idl (neg_ℤ z))
 
 -- ---- a size up to 1025
-
-pub size_exact : (n : ℕ) → n ≤ grid_edge + 1 → T (in_float binary32 (pos n))
-size_exact n h = in_float_lem binary32 n (omega arith)
 
 pub minus_float : (v : ℕ) → v ≤ grid_edge + 1 → sub binary32 (of_bits binary32 0) (of_int binary32 (pos v)) ≡ of_int binary32 (neg_ℤ (pos v))
 minus_float v h = zero_minus (of_int_is binary32 (pos v) (omega arith))

@@ -1,5 +1,4 @@
-pub mod Flags
-pub mod Places
+pub mod Prefixes
 pub mod Digits
 pub mod Numbers
 pub mod Floats

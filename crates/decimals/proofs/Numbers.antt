@@ -1,79 +1,59 @@
 -- A number: digits, or a minus and the digits of a number above zero.
+use Rattle.std.proofs.Common.{ℕ, zero, suc, ◌+◌, ◌≤◌, min, ◌≡◌, ◌≢◌, List, ◌∷◌, ◌++◌, sym, ap, ◌∙◌, pos, neg_ℤ, arith}
 use Prim.Native.Char.{code}
-use Prim.Native.Nat.{ℕ, zero, suc, ◌+◌, ◌≤◌, ◌<◌, min}
-use native.Mathlib.Omega.{arith}
-use mathlib.Core.Path.{◌≡◌, refl, sym, ap, ◌∙◌}
-use mathlib.Core.Bool.{Bool, true, false}
-use mathlib.Core.Logic.{◌≢◌}
-use mathlib.Core.List.{List, ◌∷◌, ◌++◌}
-use lib.ListN.{drop, get_or}
-use lib.IntN.{pos, negsuc, neg_ℤ}
-use lib.Ieee.{Float, binary32, of_int}
+use lib.IntN.{negsuc}
+use lib.Ieee.{Float, binary32, of_bits, of_int, sub}
 use Rattle.rules.specs.Limits.{grid_edge}
 use Rattle.rules.specs.Text.{natural, decimal, Ends}
 use Rattle.rules.specs.Lines.{coordinate}
-use Rattle.rules.proofs.TextNumbers.{natural_parse, starts}
-use Rattle.decimals.specs.Reads.{NaturalAt, NoNatural, NumberAt, NoNumber}
-use Rattle.decimals.proofs.Places.{next_byte, first_is}
+use Rattle.rules.proofs.TextNumbers.{at_first, natural_parse, starts}
+use Rattle.decimals.proofs.Floats.{minus_float}
+use Rattle.decimals.specs.Reads.{NaturalRead, NoNatural, NumberRead, NoNumber}
 
--- what `read_natural` tells of a place
-abbrev pub Told : List ℕ → ℕ → Bool → ℕ → ℕ → Type 0
-Told line at ok end value = (ok ≡ true → NaturalAt line at end value) × (ok ≡ false → NoNatural line at × (value ≡ 0))
-
-pub natural-small : {line : List ℕ} {at end value : ℕ} (ok : Bool) → Told line at ok end value → value ≤ grid_edge + 1
-natural-small true t = omega (arith, (t.0 refl).worth)
-natural-small false t = omega (arith, (t.1 refl).1)
+pub size_small : {text : List ℕ} {value : ℕ} {rest : List ℕ} → NaturalRead text value rest → value ≤ grid_edge + 1
+size_small h = omega (arith, h.worth)
 
 -- ---- without a minus
 
-number_plain : (line : List ℕ) (at end value : ℕ) (v : Float) → NaturalAt line at end value → v ≡ of_int binary32 (pos value) → NumberAt line at end v
-unfolding decimal coordinate
-number_plain line at end value v h e =
-    record { z = pos h.n; text = h.text; ends = h.ends; within = h.within; worth = e ∙ ap (λ (x : ℕ). of_int binary32 (pos x)) h.worth }
+module _ {text : List ℕ} where
+  pub number_plain : {value : ℕ} {rest : List ℕ} → NaturalRead text value rest → NumberRead text (of_int binary32 (pos value)) rest
+  unfolding decimal coordinate
+  number_plain h = record { z = pos h.n; is = h.is; ends = h.ends; worth = ap (λ (x : ℕ). of_int binary32 (pos x)) h.worth }
 
-no_number : (line : List ℕ) (at : ℕ) → get_or line at 0 ≢ code "-" → NoNatural line at → NoNumber line at
-unfolding NoNatural NoNumber decimal
-no_number line at e h (pos n) rest t f = h n rest t f
-no_number line at e h (negsuc n) rest t f = e (first_is line at (code "-" ∷ (natural (suc n) ++ rest)) t)
-
-pub plain_told : (line : List ℕ) (at end value : ℕ) (v : Float) (ok : Bool) → get_or line at 0 ≢ code "-" → Told line at ok end value → v ≡ of_int binary32 (pos value)
-    → (ok ≡ true → NumberAt line at end v) × (ok ≡ false → NoNumber line at)
-plain_told line at end value v ok m t is = (λ e. number_plain line at end value v (t.0 e) is, λ e. no_number line at m (t.1 e).0)
+  pub no_number_plain : ((l : List ℕ) → text ≡ code "-" ∷ l → ⊥) → NoNatural text → NoNumber text
+  unfolding NoNatural NoNumber decimal
+  no_number_plain e h (pos n) rest t f = h n rest t f
+  no_number_plain e h (negsuc n) rest t f = e (natural (suc n) ++ rest) t
 
 -- ---- behind a minus
 
-module _ (line : List ℕ) (at : ℕ) (minus : get_or line at 0 ≡ code "-") where
-  minus_here : drop at line ≡ code "-" ∷ drop (at + 1) line
-  minus_here = next_byte line at (code "-") minus (omega arith)
-
-  number_minus : (end value : ℕ) (v : Float) → NaturalAt line (at + 1) end value → 0 < value → v ≡ of_int binary32 (neg_ℤ (pos value)) → NumberAt line at end v
+module _ {text digits : List ℕ} (minus : text ≡ code "-" ∷ digits) where
+  pub number_minus : {value : ℕ} {rest : List ℕ} → NaturalRead digits value rest → value ≢ 0 → NumberRead text (sub binary32 (of_bits binary32 0) (of_int binary32 (pos value))) rest
   unfolding decimal coordinate
-  number_minus end value v h p is = go h.n h.text h.worth
+  number_minus {value} {rest} h p = go h.n h.is h.worth
     where
-      go : (n : ℕ) → drop (at + 1) line ≡ natural n ++ drop end line → value ≡ min n (grid_edge + 1) → NumberAt line at end v
-      go zero t w = absurd (omega arith)
+      v : Float
+      v = sub binary32 (of_bits binary32 0) (of_int binary32 (pos value))
+
+      go : (n : ℕ) → digits ≡ natural n ++ rest → value ≡ min n (grid_edge + 1) → NumberRead text v rest
+      go zero t w = absurd (p (omega (arith, w)))
       go (suc n) t w =
-          record { z = negsuc n; text = minus_here ∙ ap (λ (l : List ℕ). code "-" ∷ l) t; ends = h.ends; within = h.within; worth = is ∙ ap (λ (x : ℕ). of_int binary32 (neg_ℤ (pos x))) w }
+          record { z = negsuc n; is = minus ∙ ap (λ (l : List ℕ). code "-" ∷ l) t; ends = h.ends; worth = minus_float value (size_small h) ∙ ap (λ (x : ℕ). of_int binary32 (neg_ℤ (pos x))) w }
 
   -- there is no number above zero
-  minus_fails : ((n : ℕ) (rest : List ℕ) → drop (at + 1) line ≡ natural (suc n) ++ rest → Ends rest → ⊥) → NoNumber line at
+  none_above : ((n : ℕ) (rest : List ℕ) → digits ≡ natural (suc n) ++ rest → Ends rest → ⊥) → NoNumber text
   unfolding NoNumber decimal
-  minus_fails h (pos n) rest t f = omega (arith, minus, starts n rest, first_is line at (natural n ++ rest) t)
-  minus_fails h (negsuc n) rest t f = let k = sym minus_here ∙ t in h n rest (cc) f
+  none_above h (pos n) rest t f = omega (arith, starts n rest, at_first (sym minus ∙ t))
+  none_above h (negsuc n) rest t f = let k = sym minus ∙ t in h n rest (cc) f
 
-  no_minus_zero : (end value : ℕ) → NaturalAt line (at + 1) end value → value ≡ 0 → NoNumber line at
-  no_minus_zero end value h p = minus_fails (λ n rest t f. bad n rest t f)
+  pub no_minus_zero : {value : ℕ} {rest : List ℕ} → NaturalRead digits value rest → value ≡ 0 → NoNumber text
+  no_minus_zero {value} {rest} h p = none_above bad
     where
-      bad : (n : ℕ) (rest : List ℕ) → drop (at + 1) line ≡ natural (suc n) ++ rest → Ends rest → ⊥
-      bad n rest t f =
-          let same : (h.n ≡ suc n) × (drop end line ≡ rest) = natural_parse h.n (suc n) (drop end line) rest h.ends f (sym h.text ∙ t) in
-          omega (arith, h.worth)
+      bad : (n : ℕ) (left : List ℕ) → digits ≡ natural (suc n) ++ left → Ends left → ⊥
+      bad n left t f =
+          let same : (h.n ≡ suc n) × (rest ≡ left) = natural_parse h.n (suc n) rest left h.ends f (sym h.is ∙ t) in
+          omega (arith, h.worth, same.0)
 
-  no_number_minus : NoNatural line (at + 1) → NoNumber line at
+  pub no_number_minus : NoNatural digits → NoNumber text
   unfolding NoNatural
-  no_number_minus h = minus_fails (λ n rest t f. h (suc n) rest t f)
-
-  pub minus_told : (end value : ℕ) (v : Float) (ok : Bool) → Told line (at + 1) ok end value → v ≡ of_int binary32 (neg_ℤ (pos value))
-      → (above : Bool) → (above ≡ true → 0 < value) → (above ≡ false → value ≡ 0) → (above ≡ true → NumberAt line at end v) × (above ≡ false → NoNumber line at)
-  minus_told end value v true t is above f g = (λ e. number_minus end value v (t.0 refl) (f e) is, λ e. no_minus_zero end value (t.0 refl) (g e))
-  minus_told end value v false t is above f g = (λ e. absurd (omega (arith, f e, (t.1 refl).1)), λ e. no_number_minus (t.1 refl).0)
+  no_number_minus h = none_above (λ n rest t f. h (suc n) rest t f)

@@ -1,14 +1,17 @@
--- Text over a slice: one text behind another is the two as one, and a text that is written in parts.
-use Prim.Native.Nat.{ℕ, ◌+◌, ◌≤◌, ◌<◌}
+-- Text over lent bytes: one text behind another is the two as one, and a text that is written in parts.
+use Prim.Native.Nat.{ℕ, ◌+◌, ◌-◌, ◌≤◌, ◌<◌}
 use native.Mathlib.Nat.{add_assoc, add-zero, zero-add}
 use native.Mathlib.Numerals.{add-one}
 use native.Mathlib.Omega.{arith}
 use mathlib.Core.Path.{◌≡◌, refl, sym, ap, ap₂, ◌∙◌}
-use mathlib.Core.List.{List, [], ◌∷◌, ◌++◌, append_assoc, append-nil}
+use mathlib.Core.List.{List, [], ◌∷◌, ◌++◌, append_assoc}
 use lib.ListN.{length, take, drop, set, length-append, length-drop, take-append-drop}
-use lib.Seq.{length-take-le, take_at, drop_at, drop-drop, set_split}
+use lib.Seq.{length-take-le, take_all, take_at, drop_at, drop-drop, set_split}
+use borrow.Rule.Slice.PartMut.{put_mid}
+use Rattle.std.proofs.lemmas.Slice.{put_mid-paste}
 use Rattle.rules.specs.Layout.{over}
-use Rattle.decimals.specs.Writes.{written, Room, Wrote}
+use Rattle.decimals.specs.declared.write.Text.{Text}
+use Rattle.decimals.specs.Writes.{written, Wrote, Takes, Grew}
 
 length-written : (old : List ℕ) (at : ℕ) (text : List ℕ) → at + length text ≤ length old → length (written old at text) ≡ length old
 unfolding written
@@ -36,6 +39,15 @@ written_more old at s t h =
     ∙ append_assoc front s (t ++ drop (at + length (s ++ t)) old)
     ∙ ap (λ (l : List ℕ). front ++ l) (sym (append_assoc s t (drop (at + length (s ++ t)) old)))
 
+-- what `copy_from_slice` leaves
+pub put_word : (old : List ℕ) (at : ℕ) (text : List ℕ) {mid : List ℕ} → mid ≡ text → put_mid at (at + length text - at) old mid ≡ written old at text
+unfolding written
+put_word old at text {mid} e =
+    let n : length text ≡ at + length text - at = omega arith in
+    put_mid-paste at (at + length text - at) old mid text (length text) e n refl
+    ∙ append_assoc (take at old) (take (length text) text) (drop (at + length text) old)
+    ∙ ap (λ (l : List ℕ). take at old ++ (l ++ drop (at + length text) old)) (take_all (length text) text (omega arith))
+
 -- ---- what a call wrote
 
 pub wrote_none : (old : List ℕ) (at : ℕ) → at ≤ length old → Wrote old old at at []
@@ -57,58 +69,63 @@ wrote_then {a} {b} {c} {i} {j} {k} {s} {t} w v =
       room = record { fits = omega (arith, length-append s t) };
     }
 
-pub wrote_as : {old new : List ℕ} {at end : ℕ} {s t : List ℕ} → t ≡ s → Wrote old new at end s → Wrote old new at end t
-wrote_as e w = rw e w
-
 -- what was written at the front stands over what was there
 pub wrote-over : {old new : List ℕ} {end : ℕ} {text : List ℕ} → Wrote old new 0 end text → (new ≡ over text old) × (end ≡ length text)
 unfolding written
 wrote-over {old} {new} {end} {text} w = (w.is ∙ ap (λ (n : ℕ). text ++ drop n old) (zero-add (length text)), w.ends ∙ zero-add (length text))
 
+-- what the lent bytes are at last, when the text is let go
+pub wrote_at_last : {old new out : List ℕ} {at end : ℕ} {text : List ℕ} → Wrote old out at end text → new ≡ out → Wrote old new at end text
+wrote_at_last w e = rw e w
+
+-- ---- what was written behind a text
+
+pub grew_then : {a b c : Text} {s t : List ℕ} → Grew a b s → Grew b c t → Grew a c (s ++ t)
+grew_then g h = record { wrote = wrote_then g.wrote h.wrote; same_out = h.same_out ∙ g.same_out }
+
+pub grew_as : {a b : Text} {s t : List ℕ} → t ≡ s → Grew a b s → Grew a b t
+grew_as e g = rw e g
+
 -- ---- a text that is written in parts: there was room for all of it, and `left` is still to be written
 
-pub record Partly (old new : List ℕ) (at end : ℕ) (text left : List ℕ) : Type 0 where
+pub record Partly (old new : Text) (text left : List ℕ) : Type 0 where
   pub done : List ℕ
   pub whole : text ≡ done ++ left
-  pub wrote : Wrote old new at end done
-  pub room : Room old at text
+  pub grew : Grew old new done
+  pub room : Takes old text
 
-pub partly_none : {old text : List ℕ} {at : ℕ} → Room old at text → Partly old old at at text text
-partly_none {old} {text} {at} h = record { done = []; whole = refl; wrote = wrote_none old at (omega (arith, h.fits)); room = h }
+pub partly_none : {old : Text} {text : List ℕ} → Takes old text → Partly old old text text
+partly_none {old} {text} h = record { done = []; whole = refl; grew = record { wrote = wrote_none old.out.now old.end (omega (arith, h.fits)); same_out = refl }; room = h }
 
 -- what is left fits behind what is written
-pub partly_room : {old new text left : List ℕ} {at end : ℕ} → Partly old new at end text left → Room new end left
+pub partly_room : {old new : Text} {text left : List ℕ} → Partly old new text left → Takes new left
 partly_room {left = left} p = record {
-  fits = omega (arith, p.room.fits, ap length p.whole, length-append p.done left, p.wrote.ends, wrote-length p.wrote);
+  fits = omega (arith, p.room.fits, ap length p.whole, length-append p.done left, p.grew.wrote.ends, wrote-length p.grew.wrote);
 }
 
 -- and so does each part of it, and a byte
-pub partly_fits : {old new text : List ℕ} {at end : ℕ} (s t : List ℕ) → Partly old new at end text (s ++ t) → Room new end s
+pub partly_fits : {old new : Text} {text : List ℕ} (s t : List ℕ) → Partly old new text (s ++ t) → Takes new s
 partly_fits s t p = record { fits = omega (arith, (partly_room p).fits, length-append s t) }
 
-pub partly_byte : {old new text rest : List ℕ} {at end b : ℕ} → Partly old new at end text (b ∷ rest) → end < length new
+pub partly_byte : {old new : Text} {text rest : List ℕ} {b : ℕ} → Partly old new text (b ∷ rest) → new.end < length new.out.now
 partly_byte p = omega (arith, (partly_room p).fits)
 
 -- the next part is written
-pub partly_more : {a b c text : List ℕ} {i j k : ℕ} (s t : List ℕ) → Partly a b i j text (s ++ t) → Wrote b c j k s → Partly a c i k text t
-partly_more s t p w = record { done = p.done ++ s; whole = p.whole ∙ sym (append_assoc p.done s t); wrote = wrote_then p.wrote w; room = p.room }
+pub partly_more : {a b c : Text} {text : List ℕ} (s t : List ℕ) → Partly a b text (s ++ t) → Grew b c s → Partly a c text t
+partly_more s t p g = record { done = p.done ++ s; whole = p.whole ∙ sym (append_assoc p.done s t); grew = grew_then p.grew g; room = p.room }
 
 -- the last part is written
-pub partly_end : {a b c text left : List ℕ} {i j k : ℕ} → Partly a b i j text left → Wrote b c j k left → Wrote a c i k text
-partly_end p w = wrote_as p.whole (wrote_then p.wrote w)
-
--- nothing is left
-pub partly_whole : {old new text : List ℕ} {at end : ℕ} → Partly old new at end text [] → Wrote old new at end text
-partly_whole p = wrote_as (p.whole ∙ append-nil p.done) p.wrote
+pub partly_end : {a b c : Text} {text left : List ℕ} → Partly a b text left → Grew b c left → Grew a c text
+partly_end p g = grew_as p.whole (grew_then p.grew g)
 
 -- what is left was written in parts itself
-pub partly_then : {a b c text mid left : List ℕ} {i j k : ℕ} → Partly a b i j text mid → Partly b c j k mid left → Partly a c i k text left
+pub partly_then : {a b c : Text} {text mid left : List ℕ} → Partly a b text mid → Partly b c mid left → Partly a c text left
 partly_then {left = left} p q = record {
   done = p.done ++ q.done;
   whole = p.whole ∙ ap (λ (l : List ℕ). p.done ++ l) q.whole ∙ sym (append_assoc p.done q.done left);
-  wrote = wrote_then p.wrote q.wrote;
+  grew = grew_then p.grew q.grew;
   room = p.room;
 }
 
-pub partly_as : {old new text left : List ℕ} {at end : ℕ} {rest : List ℕ} → left ≡ rest → Partly old new at end text left → Partly old new at end text rest
+pub partly_as : {old new : Text} {text left rest : List ℕ} → left ≡ rest → Partly old new text left → Partly old new text rest
 partly_as e p = rw (← e) p

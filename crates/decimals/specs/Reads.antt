@@ -1,32 +1,28 @@
--- What stands at a place of a line: a digit, or a number up to where its digits end. A number's size is told up to 1025, the first off the grid.
-use Rattle.std.specs.Prelude.{ℕ, ◌+◌, ◌≤◌, ◌<◌, min, ◌≡◌, List, ◌++◌, length, drop, get_or, ℤ, Float}
+-- What a text starts with: a digit, or a number up to where its digits end. A number's size is told up to 1025, the first off the grid.
+use Rattle.std.specs.Prelude.{ℕ, ◌+◌, ◌<◌, min, ◌≡◌, List, ◌∷◌, ◌++◌, ℤ, Float}
 use Rattle.rules.specs.Limits.{grid_edge}
-use Rattle.rules.specs.Text.{digit, natural, decimal, Digit, Ends}
+use Rattle.rules.specs.Text.{digit, natural, decimal, Ends}
 use Rattle.rules.specs.Lines.{coordinate}
 
--- d is the digit at i, or 10 where there is none
-pub record DigitAt (line : List ℕ) (i d : ℕ) : Type 0 where
-  pub small : d ≤ 10
-  pub found : d < 10 → get_or line i 0 ≡ digit d
-  pub inside : d < 10 → i < length line
-  pub nowhere : d ≡ 10 → Digit (get_or line i 0) → ⊥
+-- the text is the digit d, and then the rest
+pub record DigitRead (text : List ℕ) (d : ℕ) (rest : List ℕ) : Type 0 where
+  pub small : d < 10
+  pub is : text ≡ digit d ∷ rest
 
-pub record NaturalAt (line : List ℕ) (at end value : ℕ) : Type 0 where
+pub record NaturalRead (text : List ℕ) (value : ℕ) (rest : List ℕ) : Type 0 where
   pub n : ℕ
-  pub text : drop at line ≡ natural n ++ drop end line
-  pub ends : Ends (drop end line)
-  pub within : end ≤ length line
+  pub is : text ≡ natural n ++ rest
+  pub ends : Ends rest
   pub worth : value ≡ min n (grid_edge + 1)
 
-unfoldable pub NoNatural : List ℕ → ℕ → Type 0
-NoNatural line at = (n : ℕ) (rest : List ℕ) → drop at line ≡ natural n ++ rest → Ends rest → ⊥
+unfoldable pub NoNatural : List ℕ → Type 0
+NoNatural text = (n : ℕ) (rest : List ℕ) → text ≡ natural n ++ rest → Ends rest → ⊥
 
-pub record NumberAt (line : List ℕ) (at end : ℕ) (value : Float) : Type 0 where
+pub record NumberRead (text : List ℕ) (value : Float) (rest : List ℕ) : Type 0 where
   pub z : ℤ
-  pub text : drop at line ≡ decimal z ++ drop end line
-  pub ends : Ends (drop end line)
-  pub within : end ≤ length line
+  pub is : text ≡ decimal z ++ rest
+  pub ends : Ends rest
   pub worth : value ≡ coordinate z
 
-unfoldable pub NoNumber : List ℕ → ℕ → Type 0
-NoNumber line at = (z : ℤ) (rest : List ℕ) → drop at line ≡ decimal z ++ rest → Ends rest → ⊥
+unfoldable pub NoNumber : List ℕ → Type 0
+NoNumber text = (z : ℤ) (rest : List ℕ) → text ≡ decimal z ++ rest → Ends rest → ⊥

@@ -1,4 +1,4 @@
-// Whole numbers as text, in decimals: read at a place of a line, and written to lent bytes.
+// Whole numbers as text, in decimals: read where a text starts, and written into lent bytes.
 #![tactic(auto)]
 
 pub mod read;

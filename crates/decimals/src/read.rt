@@ -1,121 +1,54 @@
-// Reading a whole number in decimal, of any length. A size is of interest up to 1025, the first off the grid, so it is kept as at most that.
-ghost use Rattle.std.specs.Prelude.{◌≡◌, true, false, ◌+◌, ◌≤◌, min, get_or, pos, neg_ℤ};
-ghost use Rattle.std.specs.Float.{binary32};
-ghost use Rattle.std.specs.Float.Ieee.{of_int};
-ghost use Rattle.rules.specs.Limits.{grid_edge};
-ghost use Rattle.decimals.specs.Reads.{DigitAt, NaturalAt, NoNatural, NumberAt, NoNumber};
+// Reading a whole number in decimal, of any length, that a text starts with: its value, and the text behind it. A size is of interest up to 1025,
+// the first off the grid, so it is kept as at most that.
+ghost use Rattle.std.specs.Prelude.{IfSome, IfNone};
+ghost use Rattle.rules.specs.Text.{Ends};
+ghost use Rattle.decimals.specs.Reads.{DigitRead, NaturalRead, NoNatural, NumberRead, NoNumber};
 
-use entries::wide_byte;
-
-// Digits up to `end`, and their value, 0 where there are none.
-#[derive(Clone, Copy)]
-pub struct Natural {
-    pub ok: bool,
-    pub end: usize,
-    pub value: u32,
-}
-
-// A number up to `end`, and its value.
-#[derive(Clone, Copy)]
-pub struct Number {
-    pub ok: bool,
-    pub end: usize,
-    pub value: f32,
-}
-
-// The byte at i, and 0 behind the end.
-pub fn byte(line: &[u8], i: usize) -> u8
-    ensures { result ≡ get_or line.now i 0 }
+fn read_digit(text: &[u8]) -> Option<(u32, &[u8])>
+    ensures digit { IfSome result (λ d. DigitRead text.now d.0 d.1.now) }
+    ensures no_digit { IfNone result (Ends text.now) }
 {
-    if i < line.len() { line[i] } else { 0 }
-}
-
-// The digit at i, and 10 where there is none.
-fn digit(line: &[u8], i: usize) -> u32
-    ensures { DigitAt line.now i result }
-{
-    let b = byte(line, i);
-    if b < b'0' {
-        return 10;
+    let (first, rest) = text.split_first()?;
+    if first.is_ascii_digit() {
+        Some((u32::from(*first - b'0'), rest))
+    } else {
+        None
     }
-    if b'9' < b {
-        return 10;
-    }
-    wide_byte(b) - 48
 }
 
-fn capped(v: u32) -> u32
-    ensures { result ≡ min v (grid_edge + 1) }
+// Any number of digits, and no zero before others.
+#[tactic(auto, using(crate::proofs::Digits::no_digit))]
+fn read_natural(text: &[u8]) -> Option<(u32, &[u8])>
+    ensures natural { IfSome result (λ n. NaturalRead text.now n.0 n.1.now) }
+    ensures no_natural { IfNone result (NoNatural text.now) }
 {
-    if v < 1025 { v } else { 1025 }
-}
-
-// The digits at a place: any number of them, and no zero before others.
-fn read_natural(line: &[u8], at: usize) -> Natural
-    ensures natural_at { result.ok ≡ true → NaturalAt line.now at result.end result.value }
-    ensures no_natural { result.ok ≡ false → NoNatural line.now at × (result.value ≡ 0) }
-{
-    let first = digit(line, at);
-    if first == 10 {
-        return Natural {
-            ok: false,
-            end: 0,
-            value: 0,
-        };
-    }
-    let mut i = at + 1;
-    let mut d = digit(line, i);
+    let (first, mut rest) = read_digit(text)?;
     if first == 0 {
-        return Natural {
-            ok: 10 <= d,
-            end: i,
-            value: 0,
+        return match read_digit(rest) {
+            Some(_) => None,
+            None => Some((0, rest)),
         };
     }
     let mut value = first;
-    while d < 10 {
-        value = capped(value * 10 + d);
-        i += 1;
-        d = digit(line, i);
+    while let Some((digit, behind)) = read_digit(rest) {
+        value = (value * 10 + digit).min(1025);
+        rest = behind;
     }
-    Natural {
-        ok: true,
-        end: i,
-        value,
-    }
+    Some((value, rest))
 }
 
-fn above_zero(v: u32) -> f32
-    requires { v ≤ grid_edge + 1 }
-    ensures { result ≡ of_int binary32 (pos v) }
+// Behind a minus stands a number above zero.
+pub fn read_number(text: &[u8]) -> Option<(f32, &[u8])>
+    ensures number { IfSome result (λ n. NumberRead text.now n.0 n.1.now) }
+    ensures no_number { IfNone result (NoNumber text.now) }
 {
-    v as f32
-}
-
-fn below_zero(v: u32) -> f32
-    requires { v ≤ grid_edge + 1 }
-    ensures { result ≡ of_int binary32 (neg_ℤ (pos v)) }
-{
-    0.0 - v as f32
-}
-
-// The number at a place: behind a minus a number above zero.
-pub fn read_number(line: &[u8], at: usize) -> Number
-    ensures number_at { result.ok ≡ true → NumberAt line.now at result.end result.value }
-    ensures no_number { result.ok ≡ false → NoNumber line.now at }
-{
-    if byte(line, at) == b'-' {
-        let n = read_natural(line, at + 1);
-        return Number {
-            ok: 0 < n.value,
-            end: n.end,
-            value: below_zero(n.value),
-        };
+    if let Some(digits) = text.strip_prefix(b"-") {
+        let (size, rest) = read_natural(digits)?;
+        if size == 0 {
+            return None;
+        }
+        return Some((0.0 - size as f32, rest));
     }
-    let n = read_natural(line, at);
-    Number {
-        ok: n.ok,
-        end: n.end,
-        value: above_zero(n.value),
-    }
+    let (size, rest) = read_natural(text)?;
+    Some((size as f32, rest))
 }

@@ -1,81 +1,76 @@
--- The first line of some bytes, found byte by byte.
-use Prim.Native.Char.{code}
-use Prim.Native.Nat.{ℕ, suc, ◌+◌, ◌≤◌, ◌<◌}
-use native.Mathlib.Omega.{arith}
-use native.Mathlib.Numerals.{add-one}
-use mathlib.Core.Path.{◌≡◌, refl, sym, ap, ap₂, subst, ◌∙◌}
-use mathlib.Core.Bool.{Bool, true, false, cond}
-use mathlib.Core.Logic.{◌≢◌}
-use mathlib.Core.List.{List, [], ◌∷◌, ◌++◌, append_assoc, append-nil}
-use lib.Dec.{eqb}
-use lib.ListN.{length, take, drop, get_or, drop_of_length-le}
-use lib.Seq.{take-suc, drop-cons, length-take-le}
-use borrow.Author.Tests.{eq-eqb, eqb-true, eqb-false}
-use Rattle.algebra.proofs.Equal.{eqb-other}
-use Rattle.algebra.specs.Lists.{end, ◌&◌}
+-- The first line of some bytes ends where the first newline stands.
+use Rattle.std.proofs.Common.{ℕ, ◌+◌, ◌-◌, ◌≡◌, ◌≢◌, ◌<◌, Bool, true, false, cond, List, [], ◌∷◌, ◌++◌, length, take, drop, get_or, ap, sym, refl, subst, ◌∙◌, add-one, one-add, arith, position, Option, Some, None}
+use mathlib.Core.Bool.{not}
+use lib.Dec.{eqb, ltb}
+use lib.Seq.{take_all, drop-cons}
+use lib.ListN.{length-drop, take-append-drop}
+use borrow.Author.Tests.{eqb-true, eqb-false, ltb-true, ltb-false}
+use Rattle.std.specs.Prelude.{unwrap_or}
+use Rattle.std.specs.List.{position_or_len}
+use Rattle.std.proofs.lemmas.List.Sums.{passes_at_first}
+use Rattle.algebra.specs.Lists.{Each, end, ◌&◌}
 use Rattle.rules.specs.Text.{first_line}
-use Rattle.rules.proofs.Streams.{NoNewline}
 
-module _ (bytes : List ℕ) (i : ℕ) where
-  -- no newline stands among the first i bytes
-  pub record Passed : Type 0 where
-    pub within : i ≤ length bytes
-    pub so_far : first_line bytes ≡ take i bytes ++ first_line (drop i bytes)
+-- no newline is among the bytes
+abbrev pub NoNewline : List ℕ → Type 0
+NoNewline bytes = Each (λ b. b ≢ 10) bytes
 
-  line_here : Passed → first_line (drop i bytes) ≡ [] → take i bytes ≡ first_line bytes
-  line_here p e = sym (p.so_far ∙ ap (λ (l : List ℕ). take i bytes ++ l) e ∙ append-nil (take i bytes))
+abbrev newline_at : List ℕ → ℕ
+newline_at bytes = position_or_len (λ b. eqb b 10) bytes
 
-  next : i < length bytes → first_line (drop i bytes) ≡ cond (eqb (get_or bytes i 0) (code "\n")) [] (get_or bytes i 0 ∷ first_line (drop (suc i) bytes))
-  unfolding first_line
-  next h = ap first_line (drop-cons bytes i 0 h)
-
-  pub at_newline : Passed → i < length bytes → get_or bytes i 0 ≡ code "\n" → take i bytes ≡ first_line bytes
-  at_newline p h e = line_here p (next h ∙ ap (λ (t : Bool). cond t [] (get_or bytes i 0 ∷ first_line (drop (suc i) bytes))) (eq-eqb (get_or bytes i 0) (code "\n") e))
-
-  pub at-end : Passed → length bytes ≤ i → take i bytes ≡ first_line bytes
-  unfolding first_line
-  at-end p h = line_here p (ap first_line (drop_of_length-le bytes h))
-
-pub passed_none : (bytes : List ℕ) → Passed bytes 0
-passed_none bytes = record { within = omega arith; so_far = refl }
-
-pub passed_more : (bytes : List ℕ) (i : ℕ) → Passed bytes i → i < length bytes → get_or bytes i 0 ≢ code "\n" → Passed bytes (i + 1)
-passed_more bytes i p h d = record {
-  within = omega arith;
-  so_far = p.so_far
-      ∙ ap (λ (l : List ℕ). take i bytes ++ l) (next bytes i h ∙ ap (λ (t : Bool). cond t [] (get_or bytes i 0 ∷ first_line (drop (suc i) bytes))) (eqb-other (get_or bytes i 0) (code "\n") d))
-      ∙ sym (append_assoc (take i bytes) (get_or bytes i 0 ∷ []) (first_line (drop (suc i) bytes)))
-      ∙ rw (add-one i) (ap (λ (l : List ℕ). l ++ first_line (drop (suc i) bytes)) (sym (take-suc bytes i 0 h)));
-}
-
--- ---- what the first line says of the bytes
-
-pub no_newline : (bytes : List ℕ) → NoNewline (first_line bytes)
+first_is : (bytes : List ℕ) → take (newline_at bytes) bytes ≡ first_line bytes
 unfolding first_line
-no_newline [] = end
-no_newline (b ∷ bytes) = go (eqb b (code "\n")) refl (no_newline bytes)
+first_is [] = refl
+first_is (b ∷ bytes) = go (eqb b 10) (first_is bytes)
   where
-    go : (t : Bool) → eqb b (code "\n") ≡ t → NoNewline (first_line bytes) → NoNewline (cond t [] (b ∷ first_line bytes))
-    go true e rest = end
-    go false e rest = eqb-false b (code "\n") e & rest
+    go : (t : Bool) → take (newline_at bytes) bytes ≡ first_line bytes → take (cond (not t) (1 + newline_at bytes) 0) (b ∷ bytes) ≡ cond t [] (b ∷ first_line bytes)
+    go true e = refl
+    go false e = rw (one-add (newline_at bytes)) (ap (λ (l : List ℕ). b ∷ l) e)
 
--- a newline stands behind it, if it is not all there is
-ended : (bytes : List ℕ) → length (first_line bytes) < length bytes → bytes ≡ first_line bytes ++ (code "\n" ∷ drop (suc (length (first_line bytes))) bytes)
-unfolding first_line
-ended [] h = absurd (omega arith)
-ended (b ∷ bytes) h = go (eqb b (code "\n")) refl h (ended bytes)
+none_in_front : (bytes : List ℕ) → NoNewline (take (newline_at bytes) bytes)
+none_in_front [] = end
+none_in_front (b ∷ bytes) = go (eqb b 10) refl (none_in_front bytes)
   where
-    go : (t : Bool) → eqb b (code "\n") ≡ t → length (cond t [] (b ∷ first_line bytes)) < length (b ∷ bytes)
-        → (length (first_line bytes) < length bytes → bytes ≡ first_line bytes ++ (code "\n" ∷ drop (suc (length (first_line bytes))) bytes))
-        → b ∷ bytes ≡ cond t [] (b ∷ first_line bytes) ++ (code "\n" ∷ drop (suc (length (cond t [] (b ∷ first_line bytes)))) (b ∷ bytes))
-    go true e k rec = ap (λ (c : ℕ). c ∷ bytes) (eqb-true b (code "\n") e)
-    go false e k rec = ap (λ (l : List ℕ). b ∷ l) (rec (omega (arith, k)))
+    go : (t : Bool) → eqb b 10 ≡ t → NoNewline (take (newline_at bytes) bytes) → NoNewline (take (cond (not t) (1 + newline_at bytes) 0) (b ∷ bytes))
+    go true e h = end
+    go false e h = rw (one-add (newline_at bytes)) (eqb-false b 10 e & h)
 
-module _ (bytes : List ℕ) (n : ℕ) (first : take n bytes ≡ first_line bytes) where
-  pub line-ended : n < length bytes → bytes ≡ take n bytes ++ (code "\n" ∷ drop (suc n) bytes)
-  line-ended h =
-      let k : length (first_line bytes) ≡ n = ap length (sym first) ∙ length-take-le n bytes (omega arith) in
-      ended bytes (omega (arith, k)) ∙ ap₂ (λ (l : List ℕ) (m : ℕ). l ++ (code "\n" ∷ drop (suc m) bytes)) (sym first) k
+-- ---- by what `position` gives
 
-  pub taken_no_newline : NoNewline (take n bytes)
-  taken_no_newline = subst NoNewline (sym first) (no_newline bytes)
+module _ (bytes : List ℕ) where
+  pub line_taken : {n : Option ℕ} → n ≡ position (λ b. eqb b 10) bytes → take (unwrap_or n (length bytes)) bytes ≡ first_line bytes
+  line_taken e = rw e (go (ltb (newline_at bytes) (length bytes)) refl)
+    where
+      go : (t : Bool) → ltb (newline_at bytes) (length bytes) ≡ t → take (unwrap_or (cond t (Some (newline_at bytes)) None) (length bytes)) bytes ≡ first_line bytes
+      go true h = first_is bytes
+      go false h = take_all (length bytes) bytes (omega arith) ∙ sym (take_all (newline_at bytes) bytes (ltb-false (newline_at bytes) (length bytes) h)) ∙ first_is bytes
+
+  pub none_there : None ≡ position (λ b. eqb b 10) bytes → NoNewline bytes
+  none_there e = go (ltb (newline_at bytes) (length bytes)) refl e
+    where
+      go : (t : Bool) → ltb (newline_at bytes) (length bytes) ≡ t → None ≡ cond t (Some (newline_at bytes)) None → NoNewline bytes
+      go true h f = cc
+      go false h f = subst NoNewline (take_all (newline_at bytes) bytes (ltb-false (newline_at bytes) (length bytes) h)) (none_in_front bytes)
+
+  -- what stands around the first
+  pub record Around (n : ℕ) : Type 0 where
+    pub line : NoNewline (take n bytes)
+    pub parts : bytes ≡ take n bytes ++ (10 ∷ drop (n + 1) bytes)
+
+  pub around : {n : ℕ} → Some n ≡ position (λ b. eqb b 10) bytes → Around n
+  around {n} e = go (ltb (newline_at bytes) (length bytes)) refl e
+    where
+      there : newline_at bytes < length bytes → Around (newline_at bytes)
+      there h =
+          let k : ℕ = newline_at bytes in
+          let at : get_or bytes k 0 ≡ 10 = eqb-true (get_or bytes k 0) 10 (passes_at_first (λ b. eqb b 10) bytes 0 h) in
+          let rest : drop k bytes ≡ 10 ∷ drop (k + 1) bytes = rw (add-one k) (drop-cons bytes k 0 h) ∙ ap (λ (b : ℕ). b ∷ drop (k + 1) bytes) at in
+          record { line = none_in_front bytes; parts = sym (take-append-drop k bytes) ∙ ap (λ (l : List ℕ). take k bytes ++ l) rest }
+
+      go : (t : Bool) → ltb (newline_at bytes) (length bytes) ≡ t → Some n ≡ cond t (Some (newline_at bytes)) None → Around n
+      go true h f = let same : newline_at bytes ≡ n = cc in subst Around same (there (ltb-true (newline_at bytes) (length bytes) h))
+      go false h f = cc
+
+-- a part that is lent up to the end
+pub to_the_end : (bytes : List ℕ) (at : ℕ) → take (length bytes - at) (drop at bytes) ≡ drop at bytes
+to_the_end bytes at = take_all (length bytes - at) (drop at bytes) (omega (arith, length-drop at bytes))

@@ -1,63 +1,27 @@
--- Bytes of a line put behind those that are carried of it.
-use Prim.Native.Nat.{ℕ, ◌+◌, ◌≤◌, ◌<◌}
-use native.Mathlib.Omega.{arith}
-use native.Mathlib.Numerals.{add-one}
-use mathlib.Core.Path.{◌≡◌, refl, sym, ap, ◌∙◌}
-use mathlib.Core.List.{List, [], ◌∷◌, ◌++◌, append_assoc, append-nil}
-use lib.ListN.{length, take, drop, get_or, set, take-append-drop, length-append, length-set}
-use lib.Seq.{take_at, take_all, take-suc, take-suc-set, length-take-le}
+-- Bytes of a line put behind those that are held of it.
+use Rattle.std.proofs.Common.{ℕ, ◌+◌, ◌-◌, ◌≤◌, min, ◌≡◌, List, ◌++◌, length, take, ap, sym, ◌∙◌, arith}
+use lib.Seq.{length-take-le, take-append-add}
+use borrow.Rule.Slice.PartMut.{put_mid}
+use Rattle.std.proofs.lemmas.List.{take_min}
+use Rattle.std.proofs.lemmas.Slice.{take-put_mid}
 
-module _ (old : List ℕ) (held : ℕ) (more : List ℕ) where
-  -- the first i bytes were put
-  pub record Kept (carried : List ℕ) (n i : ℕ) : Type 0 where
-    pub size : length carried ≡ length old
-    pub count : n ≡ held + i
-    pub within : n ≤ length old
-    pub some_of : i ≤ length more
-    pub text : take n carried ≡ take held old ++ take i more
+module _ (old : List ℕ) (held : ℕ) (more : List ℕ) (h : held ≤ length old) where
+  abbrev room : ℕ
+  room = length old - held
 
-  pub kept_none : held ≤ length old → Kept old held 0
-  kept_none h = record { size = refl; count = omega arith; within = h; some_of = omega arith; text = sym (append-nil (take held old)) }
+  -- all that is held then, of the bytes that fit
+  held-text : take (length old) (take held old ++ more) ≡ take held old ++ take (min room (length more)) more
+  held-text =
+      let size : length (take held old) ≡ held = length-take-le held old h in
+      let whole : length old ≡ length (take held old) + room = omega (arith, size) in
+      ap (λ (k : ℕ). take k (take held old ++ more)) whole ∙ take-append-add (take held old) more room ∙ ap (λ (l : List ℕ). take held old ++ l) (sym (take_min room more))
 
-  pub kept_more : {carried : List ℕ} {n i : ℕ} → Kept carried n i → n < length old → i < length more → Kept (set carried n (get_or more i 0)) (n + 1) (i + 1)
-  kept_more {carried = carried} {n = n} {i = i} k h j =
-      let p : n < length carried = omega (arith, k.size) in
-      record {
-        size = length-set carried n (get_or more i 0) ∙ k.size;
-        count = omega (arith, k.count);
-        within = omega arith;
-        some_of = omega arith;
-        text = rw (add-one n, add-one i)
-            (take-suc-set carried n (get_or more i 0) p
-            ∙ ap (λ (l : List ℕ). l ++ (get_or more i 0 ∷ [])) k.text
-            ∙ append_assoc (take held old) (take i more) (get_or more i 0 ∷ [])
-            ∙ ap (λ (l : List ℕ). take held old ++ l) (sym (take-suc more i 0 j)));
-      }
+  module _ {n : ℕ} {mid : List ℕ} (fits : n ≡ min (length more) room) (copied : mid ≡ take n more) where
+    size : length mid ≡ n
+    size = ap length copied ∙ length-take-le n more (omega arith)
 
-  -- what is held then
-  abbrev pub Holds : List ℕ → ℕ → Type 0
-  Holds carried n = (take n carried ≡ take (length old) (take held old ++ more)) × ((n ≤ length old) × (length carried ≡ length old))
-
-  module _ {carried : List ℕ} {n i : ℕ} (k : Kept carried n i) where
-    lengths : length (take held old ++ take i more) ≡ n
-    lengths =
-        omega (
-          arith,
-          length-append (take held old) (take i more),
-          length-take-le held old (omega (arith, k.count, k.within)),
-          length-take-le i more k.some_of,
-          k.count,
-        )
-
-    -- all bytes were put
-    pub kept_all : length more ≤ i → Holds carried n
-    kept_all h =
-        let e : take held old ++ take i more ≡ take held old ++ more = ap (λ (l : List ℕ). take held old ++ l) (take_all i more h) in
-        (k.text ∙ e ∙ sym (take_all (length old) (take held old ++ more) (omega (arith, ap length e, lengths, k.within))), (k.within, k.size))
-
-    -- there is no room for another
-    pub kept_full : length old ≤ n → Holds carried n
-    kept_full h =
-        let back : (take held old ++ take i more) ++ drop i more ≡ take held old ++ more
-        = append_assoc (take held old) (take i more) (drop i more) ∙ ap (λ (m : List ℕ). take held old ++ m) (take-append-drop i more) in
-        (k.text ∙ sym (take_at (take held old ++ take i more) (drop i more) (length old) (omega (arith, lengths, k.within))) ∙ ap (take (length old)) back, (k.within, k.size))
+    pub text_kept : take (held + n) (put_mid held (held + n - held) old mid) ≡ take (length old) (take held old ++ more)
+    text_kept =
+        let e : held + n ≡ held + length mid = omega (arith, size) in
+        let k : n ≡ min room (length more) = omega arith in
+        take-put_mid held (held + n - held) old mid (held + n) e h ∙ ap (λ (l : List ℕ). take held old ++ l) (copied ∙ ap (λ (i : ℕ). take i more) k) ∙ sym held-text

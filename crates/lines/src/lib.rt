@@ -1,40 +1,55 @@
-// Bytes as lines: where a line ends, and what is carried of one that has not ended yet.
+// Bytes as lines: where a line ends, and the carrying of one that has not ended yet.
 #![tactic(auto)]
 
-ghost use Rattle.std.specs.Prelude.{◌≡◌, ◌++◌, ◌≤◌, length, take};
+pub mod carried;
+
+ghost use Rattle.std.specs.Prelude.{◌≡◌, ◌≢◌, ◌==◌, ◌∷◌, ◌++◌, ◌≤◌, length, take, position, IfSome, IfNone};
+ghost use Rattle.algebra.specs.Lists.{Each};
 ghost use Rattle.rules.specs.Text.{first_line};
+ghost use Rattle.lines.specs.Carrying.{carried_of, Kept};
+
+use carried::Carried;
+
+// Where the first newline stands.
+fn newline(bytes: &[u8]) -> Option<usize>
+    ensures { result ≡ position (λ b. b == 10) bytes.now }
+{
+    bytes.iter().position(|b| *b == b'\n')
+}
 
 // Where the first line of some bytes ends: at its newline, or behind the last byte.
 pub fn line_end(bytes: &[u8]) -> usize
-    ensures bytes_value { take result bytes.now ≡ first_line bytes.now }
-    ensures upper_bound { result ≤ length bytes.now }
+    ensures line { take result bytes.now ≡ first_line bytes.now }
+    ensures in_bounds { result ≤ length bytes.now }
 {
-    let mut i = 0;
-    while i < bytes.len() {
-        if bytes[i] == b'\n' {
-            return i;
-        }
-        i += 1;
-    }
-    i
+    newline(bytes).unwrap_or(bytes.len())
 }
 
-// Puts more bytes of a line behind the first `held` that are carried of it, as far as there is room, and answers how many are held then.
-pub fn keep(carried: &mut [u8], held: usize, more: &[u8]) -> usize
-    requires { held ≤ length carried.old }
-    ensures carried_after { take result carried.new ≡ take (length carried.old) (take held carried.old ++ more.now) }
-    ensures upper_bound { result ≤ length carried.old }
-    ensures carried_len_unchanged { length carried.new ≡ length carried.old }
+// The first line, if it has its newline, and the bytes behind that.
+pub fn split_line(bytes: &[u8]) -> Option<(&[u8], &[u8])>
+    ensures line { IfSome result (λ parts. Each (λ b. b ≢ 10) parts.0.now) }
+    ensures parts { IfSome result (λ parts. bytes.now ≡ parts.0.now ++ (10 ∷ parts.1.now)) }
+    ensures no_newline { IfNone result (Each (λ b. b ≢ 10) bytes.now) }
 {
-    let mut n = held;
-    let mut i = 0;
-    while i < more.len() {
-        if carried.len() <= n {
-            return n;
-        }
-        carried[n] = more[i];
-        n += 1;
-        i += 1;
+    let n = newline(bytes)?;
+    Some((&bytes[..n], &bytes[n + 1..]))
+}
+
+impl Carried<'_> {
+    // The bytes that are held.
+    pub fn line(&self) -> &[u8]
+        ensures { result.now ≡ carried_of self.now }
+    {
+        &self.bytes[..self.held]
     }
-    n
+
+    // Puts more bytes behind those that are held, as far as there is room.
+    pub fn keep(&mut self, more: &[u8])
+        ensures { Kept self.old more.now self.new }
+    {
+        let n = more.len().min(self.bytes.len() - self.held);
+        let end = self.held + n;
+        self.bytes[self.held..end].copy_from_slice(&more[..n]);
+        self.held = end;
+    }
 }

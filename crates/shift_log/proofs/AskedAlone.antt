@@ -21,7 +21,7 @@ use Rattle.rules.proofs.Outlines.{Outlined, outline_none}
 use Rattle.rules.proofs.FillRows.{even}
 use Rattle.rules.proofs.Answers.{asking-number, asking-answered, asking_refused}
 use Rattle.rules.proofs.Replies.{Sound, nothing-sound, outline_sound, convex-sound}
-use Rattle.point_in_poly2d.specs.Verdicts.{test_of}
+use Rattle.point_in_poly2d.specs.Positions.{test_of}
 use Rattle.wkt.proofs.Corners.{off_grid_read, points_read, coordinates-length}
 use Rattle.shift_log.proofs.Stepping.{asked_by}
 

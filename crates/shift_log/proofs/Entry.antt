@@ -1,48 +1,67 @@
 -- Two results that the promise of a step allows are equal.
-use Prim.Native.Nat.{ℕ}
-use mathlib.Core.Path.{◌≡◌, refl, sym, ap, ap₂, subst, ◌∙◌}
+use mathlib.Core.Path.{◌≡◌, refl, sym, ap, subst, ◌∙◌}
 use mathlib.Core.Bool.{cond}
 use mathlib.Core.List.{List}
 use mathlib.Core.Option.{Option, none, some}
+use Prim.Native.Nat.{ℕ}
 use lib.ListN.{length}
-use lib.Ieee.{Float}
+use Rattle.std.specs.Prelude.{Result, Ok, Err}
 use Rattle.rules.specs.Border.{outside, inside, border}
-use Rattle.rules.specs.Playback.{Event, InForce, Reply as RulesReply, number, place, reply, sets}
+use Rattle.rules.specs.Playback.{Event, InForce as RulesInForce, Reply as RulesReply, number, place, reply, sets}
 use Rattle.rules.proofs.LineMeanings.{means_one}
-use Rattle.shift_log.specs.declared.Force.{Force}
-use Rattle.shift_log.specs.declared.Outcome.{Outcome}
+use Rattle.entries.specs.declared.Refusal.{Refusal}
+use Rattle.entries.proofs.Refusals.{number_one, number_above}
+use Rattle.point_in_poly2d.specs.declared.Position.{Position}
+use Rattle.point_in_poly2d.specs.declared.Position.TheVariants.{Outside, Inside, Border}
+use Rattle.point_in_poly2d.specs.Positions.{position_of}
+use Rattle.shift_log.specs.declared.InForce.{InForce}
 use Rattle.shift_log.specs.declared.Reply.{Reply}
-use Rattle.shift_log.specs.declared.Reply.TheVariants.{Number, Outside, Inside, Border}
+use Rattle.shift_log.specs.declared.Reply.TheVariants.{Set, At}
 use Rattle.shift_log.specs.Promise.{in_force_of, reply_of, too_little, Stands, StepPromise}
 
 -- a reply is told by what it says
-back : RulesReply → Reply
-back (number n) = Number n
-back (place outside) = Outside
-back (place inside) = Inside
-back (place border) = Border
+told_number : RulesReply → ℕ
+told_number (number n) = n
+told_number (place p) = 0
 
-back_again : (r : Reply) → back (reply_of r) ≡ r
-unfolding back
-back_again (Number n) = refl
+place_of : RulesReply → Position
+place_of (number n) = Outside
+place_of (place outside) = Outside
+place_of (place inside) = Inside
+place_of (place border) = Border
+
+back_again : (p : Position) → place_of (place (position_of p)) ≡ p
+unfolding place_of
 back_again Outside = refl
 back_again Inside = refl
 back_again Border = refl
 
-reply_one : (r s : Reply) → reply_of r ≡ reply_of s → r ≡ s
-reply_one r s e = sym (back_again r) ∙ ap back e ∙ back_again s
+reply_one : (r s : Result Reply Refusal) → reply_of r ≡ reply_of s → r ≡ s
+unfolding told_number
+reply_one (Ok Set) (Ok Set) e = refl
+reply_one (Ok Set) (Ok (At p)) e = cc
+reply_one (Ok Set) (Err s) e = absurd (number_above s (sym (ap told_number e)))
+reply_one (Ok (At p)) (Ok Set) e = cc
+reply_one (Ok (At p)) (Ok (At q)) e = ap (λ (x : Position). Ok (At x)) (sym (back_again p) ∙ ap place_of e ∙ back_again q)
+reply_one (Ok (At p)) (Err s) e = cc
+reply_one (Err r) (Ok Set) e = absurd (number_above r (ap told_number e))
+reply_one (Err r) (Ok (At q)) e = cc
+reply_one (Err r) (Err s) e = ap (λ (x : Refusal). Err x) (number_one r s (ap told_number e))
 
-stands_one : (o : Option InForce) (before : List Float) (f : Force) {a b : List Float} {g h : Force} → Stands o before f a g → Stands o before f b h → (a ≡ b) × (g ≡ h)
-stands_one none before f (a, g) (b, h) = (a ∙ sym b, g ∙ sym h)
-stands_one (some s) before f (a, g) (b, h) = (a ∙ sym b, g ∙ sym h)
+-- what is lent and what is in force then
+pub record SameInForce (f g : InForce) : Type 0 where
+  pub coords : f.coords.now ≡ g.coords.now
+  pub corners : f.corners ≡ g.corners
+  pub convex : f.convex ≡ g.convex
 
-pub unique : (line : List ℕ) (before : List Float) (f : Force) (r s : Outcome) (after after' : List Float) → StepPromise line before f r after → StepPromise line before f s after'
-    → (r ≡ s) × (after ≡ after')
-unique line before f r s after after' p q =
+stands_one : (o : Option RulesInForce) (f : InForce) {g h : InForce} → Stands o f g → Stands o f h → SameInForce g h
+stands_one none f (a, b, c) (d, e, k) = record { coords = a ∙ sym d; corners = b ∙ sym e; convex = c ∙ sym k }
+stands_one (some s) f (a, b, c) (d, e, k) = record { coords = a ∙ sym d; corners = b ∙ sym e; convex = c ∙ sym k }
+
+pub unique : (line : List ℕ) (f : InForce) (r s : Result Reply Refusal) (g h : InForce) → StepPromise line f r g → StepPromise line f s h → (r ≡ s) × SameInForce g h
+unique line f r s g h p q =
     let e : p.event ≡ q.event = means_one p.meant q.meant in
-    let given : Option Event → RulesReply = λ v. cond (too_little (length before) (sets v)) (number 6) (reply (in_force_of before f) v) in
-    let set : Option Event → Option InForce = λ v. cond (too_little (length before) (sets v)) none (sets v) in
-    let a : r.reply ≡ s.reply = reply_one r.reply s.reply (p.stepped.replied ∙ ap given e ∙ sym q.stepped.replied) in
-    let other : Stands (set p.event) before f after' s.force = subst (λ (v : Option Event). Stands (set v) before f after' s.force) (sym e) q.stepped.stands in
-    let b : (after ≡ after') × (r.force ≡ s.force) = stands_one (set p.event) before f p.stepped.stands other in
-    (ap₂ (λ (x : Reply) (y : Force). record { reply = x; force = y }) a b.1, b.0)
+    let given : Option Event → RulesReply = λ v. cond (too_little (length f.coords.now) (sets v)) (number 6) (reply (in_force_of f) v) in
+    let set : Option Event → Option RulesInForce = λ v. cond (too_little (length f.coords.now) (sets v)) none (sets v) in
+    let other : Stands (set p.event) f h = subst (λ (v : Option Event). Stands (set v) f h) (sym e) q.stepped.stands in
+    (reply_one r s (p.stepped.replied ∙ ap given e ∙ sym q.stepped.replied), stands_one (set p.event) f p.stepped.stands other)

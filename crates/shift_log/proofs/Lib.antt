@@ -1,9 +1,9 @@
 pub mod Meanings
 pub mod Stepping
 pub mod Steps
+pub mod AskedAlone
 pub mod ReplyTexts
 pub mod Played
 pub mod PlayingReads
-pub mod AskedAlone
-pub mod Entry
 pub mod Runs
+pub mod Entry

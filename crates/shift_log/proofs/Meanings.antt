@@ -1,10 +1,11 @@
 -- What a line means, by what the readers say of it.
-use Prim.Native.Nat.{ℕ, zero, suc}
+use Prim.Native.Nat.{ℕ}
 use native.Mathlib.Omega.{arith}
 use mathlib.Core.Path.{◌≡◌, refl, sym, ap, ◌∙◌}
 use mathlib.Core.Logic.{◌≢◌}
 use mathlib.Core.List.{List, [], ◌∷◌, ◌++◌}
 use mathlib.Core.Option.{none, some}
+use Rattle.std.specs.Prelude.{Option, Some, None, IfSome, IfNone}
 use lib.ListN.{length}
 use lib.Ieee.{Float}
 use borrow.Author.Tests.{eq-eqb, eqb-true}
@@ -28,38 +29,47 @@ point-means r = in_form (record { written = r.pointed.text; is_proper = refl; sh
 pub polygon-means : {line : List ℕ} {n : ℕ} {own : List Float} (r : OutlineRead (bytes "POLYGON ((") line n own) → Means line (some (polygon (r.c ∷ r.cs)))
 polygon-means r = polygon_in_form (Forms.polygon_in_form r.outlined)
 
-pub triangle-means : {line : List ℕ} {own : List Float} (r : OutlineRead (bytes "TRIANGLE ((") line 3 own) → Means line (some (triangle (r.c ∷ r.cs)))
+pub triangle-means : {line : List ℕ} {n : ℕ} {own : List Float} (r : OutlineRead (bytes "TRIANGLE ((") line n own) → n ≡ 3 → Means line (some (triangle (r.c ∷ r.cs)))
 unfolding event_line
-triangle-means r =
+triangle-means r three =
     in_form
     (record {
       written = r.outlined.text ∙ sym (triangle_splits r.c r.cs);
-      is_proper = eq-eqb (length (r.c ∷ r.cs)) 3 (sym r.known.counted);
+      is_proper = eq-eqb (length (r.c ∷ r.cs)) 3 (sym r.known.counted ∙ three);
       short = r.outlined.short;
     })
 
--- a TRIANGLE line has three corners
-module _ {line : List ℕ} {own : List Float} (m : ℕ) (read : (m ≡ 0 → NoOutline (bytes "TRIANGLE ((") line) × (m ≢ 0 → OutlineRead (bytes "TRIANGLE ((") line m own)) (other : m ≢ 3) where
-  no-triangle : (corners : List Pt) → Says line (triangle corners) → ⊥
-  unfolding event_line NoOutline
-  no-triangle [] f = omega (arith, eqb-true 0 3 f.is_proper)
-  no-triangle (c ∷ cs) f = go m refl
-    where
-      outlined : Outlined (bytes "TRIANGLE ((") line c cs
-      outlined = record { text = f.written ∙ triangle_splits c cs; short = f.short }
+-- no TRIANGLE line
+abbrev pub NoTriangle : List ℕ → Type 0
+NoTriangle line = (corners : List Pt) → Says line (triangle corners) → ⊥
 
-      go : (k : ℕ) → m ≡ k → ⊥
-      go zero e = read.0 e c cs outlined
-      go (suc k) e =
-          let r = read.1 (λ z. omega (arith, e, z)) in
-          let same : r.c ∷ r.cs ≡ c ∷ cs = triangle_injective (r.c ∷ r.cs) (c ∷ cs) (triangle_splits r.c r.cs ∙ sym r.outlined.text ∙ f.written) in
-          other (r.known.counted ∙ ap length same ∙ eqb-true (length (c ∷ cs)) 3 f.is_proper)
+outlined : {line : List ℕ} {c : Pt} {cs : List Pt} → Says line (triangle (c ∷ cs)) → Outlined (bytes "TRIANGLE ((") line c cs
+unfolding event_line
+outlined {c = c} {cs = cs} f = record { text = f.written ∙ triangle_splits c cs; short = f.short }
 
-  pub nothing-means : NoPointLine line → NoOutline (bytes "POLYGON ((") line → Means line none
-  unfolding event_line NoPointLine NotInForm
-  nothing-means no-point no-outline = not_in_form none_fits
-    where
-      none_fits : (event : Event) → Says line event → ⊥
-      none_fits (polygon corners) f = no-polygon line no-outline corners (in_form_polygon f)
-      none_fits (triangle corners) f = no-triangle corners f
-      none_fits (point p) f = no-point p (record { text = f.written; short = f.short })
+pub no_triangle : (line : List ℕ) → NoOutline (bytes "TRIANGLE ((") line → NoTriangle line
+unfolding NoOutline
+no_triangle line h [] f = omega (arith, eqb-true 0 3 f.is_proper)
+no_triangle line h (c ∷ cs) f = h c cs (outlined f)
+
+-- it has three corners
+pub other_corners : {line : List ℕ} {n : ℕ} {own : List Float} → OutlineRead (bytes "TRIANGLE ((") line n own → n ≢ 3 → NoTriangle line
+unfolding event_line
+other_corners r other [] f = omega (arith, eqb-true 0 3 f.is_proper)
+other_corners r other (c ∷ cs) f =
+    let same : r.c ∷ r.cs ≡ c ∷ cs = triangle_injective (r.c ∷ r.cs) (c ∷ cs) (triangle_splits r.c r.cs ∙ sym r.outlined.text ∙ f.written) in
+    other (r.known.counted ∙ ap length same ∙ eqb-true (length (c ∷ cs)) 3 f.is_proper)
+
+-- by what the reader gives back
+pub not_three : (line : List ℕ) (own : List Float) (n : Option ℕ) → IfSome n (λ m. OutlineRead (bytes "TRIANGLE ((") line m own) → IfNone n (NoOutline (bytes "TRIANGLE ((") line) → n ≢ Some 3 → NoTriangle line
+not_three line own None a b other = no_triangle line b
+not_three line own (Some m) a b other = other_corners a (λ e. other (ap (λ (k : ℕ). Some k) e))
+
+pub nothing-means : {line : List ℕ} → NoPointLine line → NoOutline (bytes "POLYGON ((") line → NoTriangle line → Means line none
+unfolding event_line NoPointLine NotInForm
+nothing-means {line} no-point no-outline no-triangle = not_in_form none_fits
+  where
+    none_fits : (event : Event) → Says line event → ⊥
+    none_fits (polygon corners) f = no-polygon line no-outline corners (in_form_polygon f)
+    none_fits (triangle corners) f = no-triangle corners f
+    none_fits (point p) f = no-point p (record { text = f.written; short = f.short })

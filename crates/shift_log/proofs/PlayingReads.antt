@@ -1,140 +1,99 @@
 -- The bytes of a read, line by line: the lines that ended were played, and what is left stands behind what is carried.
+use Rattle.std.proofs.Common.{ℕ, suc, ◌+◌, ◌*◌, ◌≤◌, ◌<◌, ◌≡◌, List, [], ◌∷◌, ◌++◌, length, take, refl, sym, ap, ap₂, subst, ◌∙◌, arith, append_assoc, append-nil, length-take, length-append}
 use Prim.Native.Char.{code}
-use Prim.Native.Nat.{ℕ, suc, ◌+◌, ◌*◌, ◌-◌, ◌≤◌, ◌<◌}
-use native.Mathlib.Nat.{add_comm}
-use native.Mathlib.Omega.{arith}
-use native.Mathlib.Numerals.{unary_clauses}
-use mathlib.Core.Path.{◌≡◌, refl, sym, ap, ap₂, subst, ◌∙◌}
-use mathlib.Core.List.{List, [], ◌∷◌, ◌++◌, append_assoc, append-nil}
-use lib.ListN.{length, take, drop, length-drop, length-take}
-use lib.Seq.{take_all, drop-drop}
-use lib.Ieee.{Float}
-use Rattle.rules.specs.Text.{first_line, most_bytes}
+use Rattle.rules.specs.Text.{most_bytes}
 use Rattle.rules.specs.Stream.{handed, Taken, take_bytes}
 use Rattle.rules.specs.Playback.{LinesPlayed}
 use Rattle.rules.proofs.Streams.{NoNewline, run_on, run-ended}
 use Rattle.rules.proofs.PlaybackReads.{none_played, played-append}
-use Rattle.decimals.specs.Writes.{Wrote}
-use Rattle.decimals.proofs.Texts.{wrote_none, wrote-length, wrote_then}
-use Rattle.lines.proofs.FirstLine.{line-ended, taken_no_newline}
-use Rattle.shift_log.specs.declared.play.Log.{Log}
+use Rattle.decimals.specs.declared.write.Text.{Text}
+use Rattle.decimals.specs.Writes.{Grew}
+use Rattle.decimals.proofs.Texts.{wrote_none, wrote-length, wrote_at_last, grew_then}
+use Rattle.lines.specs.declared.carried.Carried.{Carried}
+use Rattle.lines.specs.Carrying.{carried_of, Kept}
+use Rattle.shift_log.specs.declared.log.Log.{Log}
 use Rattle.shift_log.specs.Promise.{in_force_of}
-use Rattle.shift_log.specs.Playing.{carried_in, LinePlayed, PlayPromise}
+use Rattle.shift_log.specs.Playing.{SameLent, LinePlayed, PlayPromise}
 use Rattle.shift_log.proofs.Played.{writes}
 
--- lines in front of what is taken
-abbrev pub behind : List (List ℕ) → Taken → Taken
-behind lines t = record { ended = lines ++ t.ended; carried = t.carried }
+pub same_lent : (log : Log) → SameLent log log
+same_lent log = record { same_carried = refl; carried_len = refl; same_coords = refl; coords_len = refl }
 
--- the bytes from a place on, as a part that is lent
-abbrev pub from : ℕ → List ℕ → List ℕ
-from at bytes = take (length bytes - at) (drop at bytes)
-
-pub from_is : (at : ℕ) (bytes : List ℕ) → from at bytes ≡ drop at bytes
-from_is at bytes = take_all (length bytes - at) (drop at bytes) (omega (arith, length-drop at bytes))
-
--- the state of the loop: the line at `at` ends at n
-pub record Playing (bytes carried₀ : List ℕ) (coords₀ : List Float) (log : Log) (out₀ carried : List ℕ) (coords : List Float) (out : List ℕ) (p : Log) (at n : ℕ) : Type 0 where
-  pub lines : List (List ℕ)
-  pub text : List ℕ
-  pub played : LinesPlayed lines (in_force_of coords₀ log.force) text (in_force_of coords p.force)
-  pub rest : take_bytes (carried_in carried₀ log) bytes ≡ behind lines (take_bytes (carried_in carried p) (drop at bytes))
-  pub wrote : Wrote out₀ out 0 p.end text
-  pub room : p.end ≤ 11 * at
-  pub holds : p.held ≤ length carried
-  pub carried_size : length carried ≡ suc most_bytes
-  pub coords_size : length coords ≡ length coords₀
-  pub out_size : length out ≡ length out₀
-  pub begins : at ≤ n
-  pub within : n ≤ length bytes
-  pub line : take (n - at) (drop at bytes) ≡ first_line (drop at bytes)
-
-pub playing_none : (bytes carried : List ℕ) (coords : List Float) (log : Log) (out : List ℕ) (n : ℕ) → log.held ≤ length carried → length carried ≡ suc most_bytes
-    → take n bytes ≡ first_line bytes → n ≤ length bytes → Playing bytes carried coords log out carried coords out (record { held = log.held; force = log.force; end = 0 }) 0 n
-playing_none bytes carried coords log out n h size line within = record {
-  lines = [];
-  text = [];
-  played = none_played (in_force_of coords log.force);
-  rest = refl;
-  wrote = wrote_none out 0 (omega arith);
-  room = omega arith;
-  holds = h;
-  carried_size = size;
-  coords_size = refl;
-  out_size = refl;
-  begins = omega arith;
-  within = within;
-  line = simp unary_clauses line;
+pub lent_then : {a b c : Log} → SameLent a b → SameLent b c → SameLent a c
+lent_then p q = record {
+  same_carried = q.same_carried ∙ p.same_carried;
+  carried_len = q.carried_len ∙ p.carried_len;
+  same_coords = q.same_coords ∙ p.same_coords;
+  coords_len = q.coords_len ∙ p.coords_len;
 }
 
-module _ {bytes carried₀ : List ℕ} {coords₀ : List Float} {log : Log} {out₀ carried : List ℕ} {coords : List Float} {out : List ℕ} {p : Log} {at n : ℕ} (w : Playing bytes carried₀ coords₀ log out₀ carried coords out p at n) where
-  -- what is carried is short, and the line that is looked at has no newline
-  short : length (carried_in carried p) ≤ suc most_bytes
-  short = omega (arith, length-take p.held carried, w.carried_size)
+-- lines in front of what is taken
+abbrev behind : List (List ℕ) → Taken → Taken
+behind lines t = record { ended = lines ++ t.ended; carried = t.carried }
 
-  no_newline : NoNewline (take (n - at) (drop at bytes))
-  no_newline = taken_no_newline (drop at bytes) (n - at) w.line
+-- the state of the loop, before the rest of the bytes
+pub record Playing (bytes : List ℕ) (old log : Log) (before after : Text) (rest : List ℕ) : Type 0 where
+  pub lines : List (List ℕ)
+  pub text : List ℕ
+  pub played : LinesPlayed lines (in_force_of old.in_force) text (in_force_of log.in_force)
+  pub left : take_bytes (carried_of old.carried) bytes ≡ behind lines (take_bytes (carried_of log.carried) rest)
+  pub grew : Grew before after text
+  pub room : after.end + 11 * length rest ≤ before.end + 11 * length bytes
+  pub carried_len : length log.carried.bytes.now ≡ suc most_bytes
+  pub lent : SameLent old log
 
-  -- it ends with its newline
-  line-rest : n < length bytes → drop at bytes ≡ take (n - at) (drop at bytes) ++ (code "\n" ∷ drop (n + 1) bytes)
-  line-rest h =
-      let e : suc (n - at) + at ≡ n + 1 = omega (arith, w.begins) in
-      line-ended (drop at bytes) (n - at) w.line (omega (arith, length-drop at bytes, w.begins, h))
-      ∙ ap (λ (m : List ℕ). take (n - at) (drop at bytes) ++ (code "\n" ∷ m)) (drop-drop (suc (n - at)) at bytes ∙ ap (λ (k : ℕ). drop k bytes) (add_comm at (suc (n - at)) ∙ e))
+pub playing_none : (bytes : List ℕ) (log : Log) (text : Text) → length log.carried.bytes.now ≡ suc most_bytes → text.end ≤ length text.out.now → Playing bytes log log text text bytes
+playing_none bytes log text size fits = record {
+  lines = [];
+  text = [];
+  played = none_played (in_force_of log.in_force);
+  left = refl;
+  grew = record { wrote = wrote_none text.out.now text.end fits; same_out = refl };
+  room = omega arith;
+  carried_len = size;
+  lent = same_lent log;
+}
 
-  pub playing_more :
-      {carried' : List ℕ} {coords' : List Float} {out' : List ℕ} {r : Log} {m : ℕ}
-      → n < length bytes
-      → LinePlayed (handed (carried_in carried p ++ take (n - at) (drop at bytes))) p coords out r coords' out'
-      → length carried' ≡ length carried
-      → length coords' ≡ length coords
-      → take m (from (n + 1) bytes) ≡ first_line (from (n + 1) bytes)
-      → m ≤ length (from (n + 1) bytes)
-      → Playing bytes carried₀ coords₀ log out₀ carried' coords' out' r (n + 1) (n + 1 + m)
-  playing_more {carried'} {coords'} {out'} {r} {m} h l a b line within =
-      let piece : List ℕ = take (n - at) (drop at bytes) in
-      let L : List ℕ = handed (carried_in carried p ++ piece) in
-      let R : List ℕ = drop (n + 1) bytes in
-      let none-carried : ◌≡◌ {A = List ℕ} [] (carried_in carried' r) = ap (λ (k : ℕ). take k carried') (sym l.none_held) in
-      let k : n + 1 + m - (n + 1) ≡ m = omega arith in
-      record {
-        lines = w.lines ++ (L ∷ []);
-        text = w.text ++ l.text;
-        played = played-append w.played l.played;
-        rest = w.rest
-            ∙ ap (λ (t : Taken). behind w.lines t) (ap (take_bytes (carried_in carried p)) (line-rest h) ∙ run-ended (carried_in carried p) piece R short no_newline)
-            ∙ ap₂ (λ (ls : List (List ℕ)) (d : List ℕ). record { ended = ls; carried = d }) (sym (append_assoc w.lines (L ∷ []) (take_bytes [] R).ended)) refl
-            ∙ ap (λ (d : List ℕ). behind (w.lines ++ (L ∷ [])) (take_bytes d R)) none-carried;
-        wrote = wrote_then w.wrote l.wrote;
-        room = omega (arith, l.few, w.room, w.begins);
-        holds = omega (arith, l.none_held);
-        carried_size = a ∙ w.carried_size;
-        coords_size = b ∙ w.coords_size;
-        out_size = wrote-length l.wrote ∙ w.out_size;
-        begins = omega arith;
-        within = omega (arith, within, ap length (from_is (n + 1) bytes), length-drop (n + 1) bytes, h);
-        line = ap (λ (i : ℕ). take i R) k ∙ subst (λ (r : List ℕ). take m r ≡ first_line r) (from_is (n + 1) bytes) line;
-      }
+module _ {bytes : List ℕ} {old log : Log} {before after : Text} {rest : List ℕ} (w : Playing bytes old log before after rest) where
+  -- what is carried is short
+  short : length (carried_of log.carried) ≤ suc most_bytes
+  short = omega (arith, length-take log.carried.held log.carried.bytes.now, w.carried_len)
 
-  pub playing_done :
-      {carried' : List ℕ} {held : ℕ}
-      → length bytes ≤ n
-      → take held carried' ≡ take (length carried) (carried_in carried p ++ from at bytes)
-      → held ≤ length carried
-      → length carried' ≡ length carried
-      → PlayPromise bytes (carried_in carried₀ log) (in_force_of coords₀ log.force) out₀ (record { held = held; force = p.force; end = p.end }) carried' coords out
+  module _ (piece next : List ℕ) (line : NoNewline piece) (parts : rest ≡ piece ++ (code "\n" ∷ next)) where
+    -- there is room for its reply
+    pub room_for_one : before.end + 11 * length bytes ≤ length before.out.now → after.end + 11 ≤ length after.out.now
+    room_for_one h = omega (arith, w.room, h, ap length parts, length-append piece (code "\n" ∷ next), wrote-length w.grew.wrote)
+
+    pub fewer : length next < length rest
+    fewer = omega (arith, ap length parts, length-append piece (code "\n" ∷ next))
+
+    pub playing_more : {log' : Log} {after' : Text} → LinePlayed (handed (carried_of log.carried ++ piece)) log after log' after' → Playing bytes old log' before after' next
+    playing_more {log'} {after'} l =
+        let L : List ℕ = handed (carried_of log.carried ++ piece) in
+        let none-carried : ◌≡◌ {A = List ℕ} [] (carried_of log'.carried) = ap (λ (k : ℕ). take k log'.carried.bytes.now) (sym l.none_held) in
+        record {
+          lines = w.lines ++ (L ∷ []);
+          text = w.text ++ l.text;
+          played = played-append w.played l.played;
+          left = w.left
+              ∙ ap (λ (t : Taken). behind w.lines t) (ap (take_bytes (carried_of log.carried)) parts ∙ run-ended (carried_of log.carried) piece next short line)
+              ∙ ap₂ (λ (ls : List (List ℕ)) (d : List ℕ). record { ended = ls; carried = d }) (sym (append_assoc w.lines (L ∷ []) (take_bytes [] next).ended)) refl
+              ∙ ap (λ (d : List ℕ). behind (w.lines ++ (L ∷ [])) (take_bytes d next)) none-carried;
+          grew = grew_then w.grew l.grew;
+          room = omega (arith, l.few, w.room, ap length parts, length-append piece (code "\n" ∷ next));
+          carried_len = l.lent.carried_len ∙ w.carried_len;
+          lent = lent_then w.lent l.lent;
+        }
+
+  pub playing_done : {carried : Carried} {room : _} {out' : List ℕ} → before.end ≡ 0 → NoNewline rest → Kept log.carried rest carried → out' ≡ after.out.now
+      → PlayPromise bytes (carried_of old.carried) (in_force_of old.in_force) before.out.now (record { carried = carried; in_force = log.in_force; room = room }) after.end out'
   unfolding handed
-  playing_done {carried'} {held} h e f g =
-      let D : List ℕ = drop at bytes in
-      let whole : take (n - at) D ≡ D = take_all (n - at) D (omega (arith, length-drop at bytes, h)) in
-      let run : take_bytes (carried_in carried p) D ≡ record { ended = []; carried = handed (carried_in carried p ++ D) }
-      = run_on (carried_in carried p) D short (subst NoNewline whole no_newline) in
-      let all : take_bytes (carried_in carried₀ log) bytes ≡ record { ended = w.lines ++ []; carried = handed (carried_in carried p ++ D) } = w.rest ∙ ap (λ (t : Taken). behind w.lines t) run in
+  playing_done {carried} {room} {out'} begins h k e =
+      let run : take_bytes (carried_of log.carried) rest ≡ record { ended = []; carried = handed (carried_of log.carried ++ rest) } = run_on (carried_of log.carried) rest short h in
+      let all : take_bytes (carried_of old.carried) bytes ≡ record { ended = w.lines ++ []; carried = handed (carried_of log.carried ++ rest) } = w.left ∙ ap (λ (t : Taken). behind w.lines t) run in
       record {
         text = w.text;
-        played = subst (λ (ls : List (List ℕ)). LinesPlayed ls (in_force_of coords₀ log.force) w.text (in_force_of coords p.force))
-            (sym (ap (λ (t : Taken). t.ended) all ∙ append-nil w.lines)) w.played;
-        carries = e ∙ ap₂ (λ (k : ℕ) (r : List ℕ). take k (carried_in carried p ++ r)) w.carried_size (from_is at bytes) ∙ sym (ap (λ (t : Taken). t.carried) all);
-        holds = omega (arith, f, g);
-        writes = writes w.wrote;
+        played = subst (λ (ls : List (List ℕ)). LinesPlayed ls (in_force_of old.in_force) w.text (in_force_of log.in_force)) (sym (ap (λ (t : Taken). t.ended) all ∙ append-nil w.lines)) w.played;
+        carries = k.line ∙ ap (λ (n : ℕ). take n (carried_of log.carried ++ rest)) w.carried_len ∙ sym (ap (λ (t : Taken). t.carried) all);
+        writes = writes (rw begins at (wrote_at_last w.grew.wrote e));
       }

@@ -1,66 +1,46 @@
 -- One step, by what became of the line: all stays as it was, or an outline is put in force.
-use Prim.Native.Nat.{ℕ, zero, suc, ◌*◌, ◌/◌, ◌≤◌, ◌<◌}
-use native.Mathlib.Omega.{arith}
+use Prim.Native.Nat.{ℕ, zero, suc, ◌/◌, ◌≤◌, ◌<◌}
 use mathlib.Core.Path.{◌≡◌, refl, sym, ap, subst, ◌∙◌}
 use mathlib.Core.Bool.{Bool, true, false, cond}
 use mathlib.Core.List.{List, [], ◌∷◌}
 use mathlib.Core.Option.{Option, none, some}
-use lib.Dec.{ltb}
-use lib.ListN.{length, take}
-use lib.Seq.{take_all}
+use lib.ListN.{length}
 use lib.Ieee.{Float}
-use borrow.Author.Tests.{lt-ltb, le-ltb, ltb-true, ltb-false}
+use borrow.Author.Tests.{lt-ltb, le-ltb}
 use Rattle.rules.specs.Limits.{most_points}
 use Rattle.rules.specs.Plane.{Pt}
-use Rattle.rules.specs.Border.{outside, inside, border}
 use Rattle.rules.specs.Layout.{over}
 use Rattle.rules.specs.Refusals.{◌gives◌}
 use Rattle.rules.specs.Entries.{Asking, asking, point_in_poly2d, point_in_convex_poly2d}
 use Rattle.rules.specs.Lines.{coordinates, off_corners}
-use Rattle.rules.specs.Playback.{InForce, Reply as RulesReply, number, corner_checks, outline_refusal, putting, told}
+use Rattle.rules.specs.Playback.{InForce as RulesInForce, Reply as RulesReply, number, corner_checks, outline_refusal, putting, told}
 use Rattle.rules.proofs.Rows.{row_on, row_off, no_rows}
-use Rattle.point_in_poly2d.specs.declared.Verdict.{Verdict}
-use Rattle.point_in_poly2d.specs.Verdicts.{verdict, test_of}
-use Rattle.shift_log.specs.declared.Force.{Force}
-use Rattle.shift_log.specs.declared.Outcome.{Outcome}
+use Rattle.std.specs.Prelude.{Result, Ok, Err}
+use Rattle.rules.specs.Entries.{unless}
+use Rattle.rules.specs.Playback.{place}
+use Rattle.rules.proofs.Layouts.{length_over}
+use Rattle.entries.specs.declared.Refusal.{Refusal}
+use Rattle.entries.specs.Refusals.{number_of}
+use Rattle.entries.proofs.Refusals.{number_above}
+use Rattle.point_in_poly2d.specs.declared.Position.{Position}
+use Rattle.point_in_poly2d.specs.Positions.{Answered, test_of}
+use Rattle.shift_log.specs.declared.InForce.{InForce}
 use Rattle.shift_log.specs.declared.Reply.{Reply}
-use Rattle.shift_log.specs.Promise.{reply_of, verdict_reply, Stepped}
+use Rattle.shift_log.specs.Promise.{reply_of, point_reply, Stepped}
 
 -- ---- a point
 
-verdict-told : (a : Asking) → verdict_reply (verdict a) ≡ told a
-verdict-told a = go a.number a.answer
+pub point_told : (a : Asking) (r : Result Position Refusal) → Answered a r → point_reply r ≡ told a
+point_told a (Ok p) h = rw (← h.number, ← h.answer)
+point_told a (Err r) h = rw (← h.number) (go (number_of r) refl)
   where
-    go : (n : ℕ) (p : _) → verdict_reply (verdict (record { number = n; answer = p })) ≡ told (record { number = n; answer = p })
-    go zero outside = refl
-    go zero inside = refl
-    go zero border = refl
-    go (suc n) p = refl
+    go : (n : ℕ) → number_of r ≡ n → number n ≡ unless n number (place a.answer)
+    go zero e = absurd (number_above r e)
+    go (suc n) e = refl
 
 pub asked_by : (convex : Bool) (x y : Float) (cs : List Float) → cond convex point_in_convex_poly2d point_in_poly2d x y cs ≡ asking (test_of convex) x y cs
 asked_by true x y cs = refl
 asked_by false x y cs = refl
-
--- the coordinates in force, of those that are lent
-taken : (coords : List Float) (n corners : ℕ) → (corners ≤ length coords / 2 → n ≡ 2 * corners) → (length coords / 2 < corners → n ≡ length coords) → take n coords ≡ take (2 * corners) coords
-taken coords n corners few many = go (ltb (length coords / 2) corners) refl
-  where
-    go : (t : Bool) → ltb (length coords / 2) corners ≡ t → take n coords ≡ take (2 * corners) coords
-    go true e =
-        let h = ltb-true (length coords / 2) corners e in
-        take_all n coords (omega (arith, many h)) ∙ sym (take_all (2 * corners) coords (omega (arith, h)))
-    go false e = ap (λ (k : ℕ). take k coords) (few (ltb-false (length coords / 2) corners e))
-
-pub told_by_lem :
-    (coords : List Float) (f : Force) (x y : Float) (n : ℕ) (v : Verdict) (r : Reply)
-    → (f.corners ≤ length coords / 2 → n ≡ 2 * f.corners)
-    → (length coords / 2 < f.corners → n ≡ length coords)
-    → v ≡ verdict (asking (test_of f.convex) x y (take n coords))
-    → reply_of r ≡ verdict_reply v
-    → reply_of r ≡ told (asking (test_of f.convex) x y (take (2 * f.corners) coords))
-told_by_lem coords f x y n v r few many e d =
-    let test : List Float → Asking = λ l. asking (test_of f.convex) x y l in
-    d ∙ ap verdict_reply e ∙ verdict-told (test (take n coords)) ∙ ap (λ (l : List Float). told (test l)) (taken coords n f.corners few many)
 
 -- ---- the refusals of an outline
 
@@ -84,18 +64,18 @@ module _ (corners : List Pt) where
 
 -- ---- what is in force then
 
-module _ {given : RulesReply} {set : Option InForce} {before : List Float} {f : Force} {r : Outcome} {after : List Float} where
-  pub stayed : set ≡ none → reply_of r.reply ≡ given → r.force ≡ f → after ≡ before → Stepped given set before f r after
-  stayed e a b d = subst (λ (s : Option InForce). Stepped given s before f r after) (sym e) (record { replied = a; stands = (d, b) })
+module _ {given : RulesReply} {set : Option RulesInForce} {f : InForce} {r : Result Reply Refusal} where
+  pub stayed : set ≡ none → reply_of r ≡ given → Stepped given set f r f
+  stayed e a = subst (λ (s : Option RulesInForce). Stepped given s f r f) (sym e) (record { replied = a; stands = (refl, refl, refl); same_coords = refl; coords_len = refl })
 
-  pub too_little_lem : (s : InForce) → set ≡ some s → length before < length s.coords → reply_of r.reply ≡ number 6 → r.force ≡ f → after ≡ before
-      → Stepped given set before f r after
-  too_little_lem s e h a b d =
-      let t = lt-ltb (length before) (length s.coords) h in
-      subst (λ (o : Option InForce). Stepped given o before f r after) (sym e) (record { replied = rw t a; stands = rw t (d, b) })
+  pub too_little_lem : (s : RulesInForce) → set ≡ some s → length f.coords.now < length s.coords → reply_of r ≡ number 6 → Stepped given set f r f
+  too_little_lem s e h a =
+      let t = lt-ltb (length f.coords.now) (length s.coords) h in
+      subst (λ (o : Option RulesInForce). Stepped given o f r f) (sym e) (record { replied = rw t a; stands = rw t (refl, refl, refl); same_coords = refl; coords_len = refl })
 
-  pub was_put : (s : InForce) → set ≡ some s → length s.coords ≤ length before → reply_of r.reply ≡ given → after ≡ over s.coords before
-      → r.force ≡ record { corners = length s.coords / 2; convex = s.convex } → Stepped given set before f r after
-  was_put s e h a b d =
-      let t = le-ltb (length before) (length s.coords) h in
-      subst (λ (o : Option InForce). Stepped given o before f r after) (sym e) (record { replied = rw t a; stands = rw t (b, d) })
+  pub was_put : {g : InForce} (s : RulesInForce) → set ≡ some s → length s.coords ≤ length f.coords.now → reply_of r ≡ given
+      → g.coords.now ≡ over s.coords f.coords.now → g.corners ≡ length s.coords / 2 → g.convex ≡ s.convex → g.coords.ghost_name ≡ f.coords.ghost_name → Stepped given set f r g
+  was_put {g} s e h a b c d same =
+      let t = le-ltb (length f.coords.now) (length s.coords) h in
+      subst (λ (o : Option RulesInForce). Stepped given o f r g) (sym e)
+      (record { replied = rw t a; stands = rw t (b, c, d); same_coords = same; coords_len = ap length b ∙ length_over s.coords f.coords.now h })

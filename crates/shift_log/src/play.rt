@@ -1,131 +1,101 @@
 // A stream of bytes, read by read: the lines that end are answered, and what is left is carried to the next read.
-ghost use Rattle.std.specs.Prelude.{◌≡◌, false, ◌++◌, suc, ◌+◌, ◌*◌, ◌≤◌, length, take};
+ghost use Rattle.std.specs.Prelude.{◌≡◌, [], ◌++◌, suc, ◌+◌, ◌*◌, ◌≤◌, length};
 ghost use Rattle.rules.specs.Limits.{most_coordinates};
 ghost use Rattle.rules.specs.Text.{most_bytes};
 ghost use Rattle.rules.specs.Stream.{handed};
+ghost use Rattle.rules.specs.Playback.{nothing_yet};
+ghost use Rattle.lines.specs.Carrying.{carried_of};
 ghost use Rattle.shift_log.specs.Promise.{in_force_of, StepPromise};
-ghost use Rattle.shift_log.specs.Playing.{carried_in, LinePlayed, PlayPromise, FinishPromise};
+ghost use Rattle.shift_log.specs.Playing.{SameLent, LinePlayed, PlayPromise, FinishPromise};
 
+use crate::log::Log;
 use crate::replies::write_reply;
-use crate::{Force, Outcome, step};
-use lines::{keep, line_end};
+use crate::{InForce, Reply};
+use decimals::write::Text;
+use entries::Refusal;
+use lines::carried::Carried;
+use lines::split_line;
 
 // As much of a line is carried: one byte more than a line in form has at most, so that one that is too long stays too long.
 pub const MOST_CARRIED: usize = 8193;
 
-// What is carried from read to read beside lent memory: how many bytes of a line that has not ended, and what is in force; and where the text
-// ends that was written last.
-#[derive(Clone, Copy)]
-pub struct Log {
-    pub held: usize,
-    pub force: Force,
-    pub end: usize,
-}
+impl<'a> Log<'a> {
+    // Before the first read.
+    pub fn new(carried: &'a mut [u8], coords: &'a mut [f32]) -> Log<'a>
+        requires { most_coordinates ≤ length coords.old }
+        ensures nothing_carried { carried_of result.carried ≡ [] }
+        ensures nothing_in_force { in_force_of result.in_force ≡ nothing_yet }
+        ensures carried { result.carried.bytes.now ≡ carried.old }
+        ensures coords { result.in_force.coords.now ≡ coords.old }
+        ensures same_carried { result.carried.bytes.ghost_name ≡ carried.entry.ghost_name }
+        ensures same_coords { result.in_force.coords.ghost_name ≡ coords.entry.ghost_name }
+    {
+        Log {
+            carried: Carried {
+                bytes: carried,
+                held: 0,
+            },
+            in_force: InForce {
+                coords,
+                corners: 0,
+                convex: false,
+            },
+        }
+    }
 
-// Before the first read.
-pub fn begin() -> Log
-    ensures { result ≡ record { held = 0; force = record { corners = 0; convex = false }; end = 0 } }
-{
-    Log {
-        held: 0,
-        force: Force {
-            corners: 0,
-            convex: false,
-        },
-        end: 0,
+    // Answers a line that ends with these bytes, behind those that are carried of it.
+    fn play_line(&mut self, piece: &[u8]) -> Result<Reply, Refusal>
+        requires { length self.old.carried.bytes.now ≡ suc most_bytes }
+        ensures step { StepPromise (handed (carried_of self.old.carried ++ piece.now)) self.old.in_force result self.new.in_force }
+        ensures lent { SameLent self.old self.new }
+    {
+        self.carried.keep(piece);
+        let line = self.carried.line();
+        self.in_force.step(line)
     }
-}
 
-// Answers a line that ends with these bytes, behind those that are carried of it.
-fn play_line(
-    piece: &[u8],
-    held: usize,
-    force: Force,
-    carried: &mut [u8],
-    coords: &mut [f32],
-) -> Outcome
-    requires held_in_bounds { held ≤ length carried.old }
-    requires carried_len { length carried.old ≡ suc most_bytes }
-    ensures { StepPromise (handed (take held carried.old ++ piece.now)) coords.old force result coords.new }
-{
-    if held == 0 {
-        return step(piece, coords, force);
+    // Answers such a line, and writes its reply.
+    fn answer_line(&mut self, piece: &[u8], text: &mut Text)
+        requires carried_len { length self.old.carried.bytes.now ≡ suc most_bytes }
+        requires room { text.old.end + 11 ≤ length text.old.out.now }
+        ensures { LinePlayed (handed (carried_of self.old.carried ++ piece.now)) self.old text.old self.new text.new }
+    {
+        let reply = self.play_line(piece);
+        self.carried.held = 0;
+        write_reply(text, reply);
     }
-    let n = keep(carried, held, piece);
-    step(&carried[..n], coords, force)
-}
 
-// Answers such a line, and writes its reply behind what is written.
-fn answer_line(
-    piece: &[u8],
-    log: Log,
-    carried: &mut [u8],
-    coords: &mut [f32],
-    out: &mut [u8],
-) -> Log
-    requires held_in_bounds { log.held ≤ length carried.old }
-    requires carried_len { length carried.old ≡ suc most_bytes }
-    requires most_coordinates_in_bounds { most_coordinates ≤ length coords.old }
-    requires end_in_bounds { log.end + 11 ≤ length out.old }
-    ensures line_played { LinePlayed (handed (carried_in carried.old log ++ piece.now)) log coords.old out.old result coords.new out.new }
-    ensures carried_len_unchanged { length carried.new ≡ length carried.old }
-    ensures coords_len_unchanged { length coords.new ≡ length coords.old }
-{
-    let s = play_line(piece, log.held, log.force, carried, coords);
-    let reply = s.reply;
-    let force = s.force;
-    let end = write_reply(reply, out, log.end);
-    Log {
-        held: 0,
-        force,
-        end,
+    // Plays the bytes of one read: writes the replies to the lines that end in them, says where that text ends, and carries the rest.
+    pub fn play(&mut self, bytes: &[u8], out: &mut [u8]) -> usize
+        requires carried_len { length self.old.carried.bytes.now ≡ suc most_bytes }
+        requires room { 11 * length bytes.now ≤ length out.old }
+        ensures play { PlayPromise bytes.now (carried_of self.old.carried) (in_force_of self.old.in_force) out.old self.new result out.new }
+        ensures lent { SameLent self.old self.new }
+    {
+        let mut text = Text { out, end: 0 };
+        let mut rest = bytes;
+        while let Some((piece, behind)) = split_line(rest) {
+            self.answer_line(piece, &mut text);
+            rest = behind;
+        }
+        self.carried.keep(rest);
+        text.end
     }
-}
 
-// Plays the bytes of one read: writes the replies to the lines that end in them, and carries the rest.
-pub fn play(bytes: &[u8], log: Log, carried: &mut [u8], coords: &mut [f32], out: &mut [u8]) -> Log
-    requires held_in_bounds { log.held ≤ length carried.old }
-    requires carried_len { length carried.old ≡ suc most_bytes }
-    requires most_coordinates_in_bounds { most_coordinates ≤ length coords.old }
-    requires bytes_in_bounds { 11 * length bytes.now ≤ length out.old }
-    ensures play_promise { PlayPromise bytes.now (carried_in carried.old log) (in_force_of coords.old log.force) out.old result carried.new coords.new out.new }
-    ensures carried_len_unchanged { length carried.new ≡ length carried.old }
-    ensures coords_len_unchanged { length coords.new ≡ length coords.old }
-    ensures out_len_unchanged { length out.new ≡ length out.old }
-{
-    let force = log.force;
-    let mut p = Log {
-        held: log.held,
-        force,
-        end: 0,
-    };
-    let mut at = 0;
-    let mut n = line_end(bytes);
-    while n < bytes.len() {
-        p = answer_line(&bytes[at..n], p, carried, coords, out);
-        at = n + 1;
-        n = at + line_end(&bytes[at..]);
+    // At the end of the stream: answers the last line, if it lacks its newline, and says where the text ends.
+    pub fn finish(&mut self, out: &mut [u8]) -> usize
+        requires { 11 ≤ length out.old }
+        ensures finish { FinishPromise (carried_of self.old.carried) (in_force_of self.old.in_force) out.old result out.new }
+        ensures carried { carried_of self.new.carried ≡ carried_of self.old.carried }
+        ensures lent { SameLent self.old self.new }
+    {
+        if self.carried.held == 0 {
+            return 0;
+        }
+        let line = self.carried.line();
+        let reply = self.in_force.step(line);
+        let mut text = Text { out, end: 0 };
+        write_reply(&mut text, reply);
+        text.end
     }
-    let held = keep(carried, p.held, &bytes[at..]);
-    let force = p.force;
-    Log {
-        held,
-        force,
-        end: p.end,
-    }
-}
-
-// At the end of the stream: answers the last line, if it lacks its newline, and says where the text ends.
-pub fn finish(log: Log, carried: &[u8], coords: &mut [f32], out: &mut [u8]) -> usize
-    requires held_in_bounds { log.held ≤ length carried.now }
-    requires most_coordinates_in_bounds { most_coordinates ≤ length coords.old }
-    requires in_bounds { 11 ≤ length out.old }
-    ensures { FinishPromise (carried_in carried.now log) (in_force_of coords.old log.force) out.old result out.new }
-{
-    if log.held == 0 {
-        return 0;
-    }
-    let s = step(&carried[..log.held], coords, log.force);
-    let reply = s.reply;
-    write_reply(reply, out, 0)
 }

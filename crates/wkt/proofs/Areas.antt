@@ -1,73 +1,77 @@
 -- A line of areas as it is written, area by area.
-use Prim.Native.Nat.{ℕ, ◌+◌, ◌≤◌, ◌<◌}
-use native.Mathlib.Numerals.{add-one}
-use native.Mathlib.Omega.{arith}
-use mathlib.Core.Path.{◌≡◌, ap, ◌∙◌}
-use mathlib.Core.List.{List, [], ◌∷◌, ◌++◌, map, append_assoc}
-use lib.ListN.{length, take, drop, get_or, drop_of_length-le}
-use lib.Seq.{drop-cons, drop-drop}
+use Rattle.std.proofs.Common.{ℕ, ◌+◌, ◌<◌, ◌≤◌, ◌≡◌, List, [], ◌∷◌, ◌++◌, map, length, take, drop, get_or, ap, ◌∙◌, add-one, arith, append_assoc, subst, add-zero}
+use lib.ListN.{drop_of_length-le, length-drop}
+use lib.Seq.{drop-cons, drop-drop, get_or-drop}
 use Rattle.algebra.specs.Lists.{Each, sum}
-use Rattle.algebra.proofs.Lists.{each_at, sum-next}
+use Rattle.algebra.proofs.Lists.{each_at, each-drop, each_take, sum-next}
 use Rattle.rules.specs.Plane.{Pt}
 use Rattle.rules.specs.Measure.{points}
 use Rattle.rules.specs.Layout.{split}
 use Rattle.rules.specs.Text.{bytes, behind, parted, area_text, multipolygon_line}
-use Rattle.decimals.specs.Writes.{Room}
+use Rattle.decimals.specs.declared.write.Text.{Text}
 use Rattle.decimals.proofs.Texts.{Partly, partly_none, partly_as}
+use Rattle.wkt.specs.Reads.{parting}
 
--- the area of n corner numbers
-abbrev pub area : List Pt → List ℕ → ℕ → ℕ → List ℕ
-area ps indices from n = area_text (points ps (take n (drop from indices)))
+module _ (ps : List Pt) where
+  abbrev pub line : List ℕ → List ℕ → List ℕ
+  line lengths indices = multipolygon_line (map (points ps) (split lengths indices))
 
-module _ (ps : List Pt) (lengths indices : List ℕ) where
-  abbrev pub line : List ℕ
-  line = multipolygon_line (map (points ps) (split lengths indices))
+  -- areas of these lengths, each behind a comma and a space, and the parenthesis
+  abbrev pub further : List ℕ → List ℕ → List ℕ
+  further lengths indices = behind (map area_text (map (points ps) (split lengths indices))) ++ bytes ")"
 
-  -- the areas from number i on, each behind a comma and a space, the first of which begins at `from`
-  abbrev areas : ℕ → ℕ → List ℕ
-  areas i from = behind (map area_text (map (points ps) (split (drop i lengths) (drop from indices))))
+  line-parts : (n : ℕ) (lengths indices : List ℕ) → line (n ∷ lengths) indices ≡ bytes "MULTIPOLYGON (" ++ (area_text (points ps (take n indices)) ++ further lengths (drop n indices))
+  unfolding multipolygon_line parted split
+  line-parts n lengths indices =
+      ap (λ (l : List ℕ). bytes "MULTIPOLYGON (" ++ l) (append_assoc (area_text (points ps (take n indices))) (behind (map area_text (map (points ps) (split lengths (drop n indices))))) (bytes ")"))
 
-  -- and the parenthesis
-  abbrev pub further : ℕ → ℕ → List ℕ
-  further i from = areas i from ++ bytes ")"
+  -- the word is left, the first area, and the others
+  pub line_first : {text : Text} (lengths indices : List ℕ) → 0 < length lengths → text.end + length (line lengths indices) ≤ length text.out.now
+      → Partly text text (line lengths indices) (bytes "MULTIPOLYGON (" ++ (area_text (points ps (take (get_or lengths 0 0) indices)) ++ further (drop 1 lengths) (drop (get_or lengths 0 0) indices)))
+  line_first [] indices h r = absurd (omega arith)
+  line_first (n ∷ lengths) indices h r = partly_as (line-parts n lengths indices) (partly_none (record { fits = r }))
 
-  -- one area, of those whose corner numbers are there
-  pub record Here (i from n : ℕ) : Type 0 where
-    pub some : 0 < n
-    pub within : from + n ≤ length indices
-    pub others : from + n + sum (drop (i + 1) lengths) ≤ length indices
-
-  pub here : (i from n : ℕ) → Each (λ k. 0 < k) lengths → i < length lengths → n ≡ get_or lengths i 0 → from + sum (drop i lengths) ≤ length indices → Here i from n
-  here i from n each h e fits = record {
-    some = omega (arith, each_at 0 lengths i h each);
-    within = omega (arith, sum-next lengths i h);
-    others = omega (arith, sum-next lengths i h);
-  }
-
-  areas_next : (i from n : ℕ) → i < length lengths → n ≡ get_or lengths i 0 → areas i from ≡ (bytes ", " ++ area ps indices from n) ++ areas (i + 1) (from + n)
+  further-parts : (n : ℕ) (lengths indices : List ℕ) → further (n ∷ lengths) indices ≡ parting ++ (area_text (points ps (take n indices)) ++ further lengths (drop n indices))
   unfolding behind split
-  areas_next i from n h e = rw (drop-cons lengths i 0 h, add-one i, e, drop-drop)
+  further-parts n lengths indices =
+      ap (λ (l : List ℕ). parting ++ l) (append_assoc (area_text (points ps (take n indices))) (behind (map area_text (map (points ps) (split lengths (drop n indices))))) (bytes ")"))
 
-  module _ {old new text : List ℕ} {at end : ℕ} (i from : ℕ) (p : Partly old new at end text (further i from)) where
+  module _ {old new : Text} {whole : List ℕ} (lengths indices : List ℕ) (i : ℕ) (p : Partly old new whole (further (drop i lengths) indices)) where
     -- the next area is left
-    pub area_left : i < length lengths → (n : ℕ) → n ≡ get_or lengths i 0 → Partly old new at end text (bytes ", " ++ (area ps indices from n ++ further (i + 1) (from + n)))
-    area_left h n e = partly_as (ap (λ (l : List ℕ). l ++ bytes ")") (areas_next i from n h e) ∙ append_assoc (bytes ", " ++ area ps indices from n) (areas (i + 1) (from + n)) (bytes ")")) p
+    pub area_left : i < length lengths → Partly old new whole (parting ++ (area_text (points ps (take (get_or lengths i 0) indices)) ++ further (drop (i + 1) lengths) (drop (get_or lengths i 0) indices)))
+    area_left h =
+        let next : drop i lengths ≡ get_or lengths i 0 ∷ drop (i + 1) lengths = rw (drop-cons lengths i 0 h, add-one i) in
+        partly_as (ap (λ (l : List ℕ). further l indices) next ∙ further-parts (get_or lengths i 0) (drop (i + 1) lengths) indices) p
 
     -- none is left
-    pub none_left : length lengths ≤ i → Partly old new at end text (bytes ")")
+    pub none_left : length lengths ≤ i → Partly old new whole (bytes ")")
     unfolding behind split
-    none_left h = partly_as (ap (λ (l : List ℕ). behind (map area_text (map (points ps) (split l (drop from indices)))) ++ bytes ")") (drop_of_length-le lengths h)) p
+    none_left h = partly_as (ap (λ (l : List ℕ). further l indices) (drop_of_length-le lengths h)) p
 
--- ---- the whole line
+-- what is known of the corner numbers of areas of these lengths
+pub record Ahead (ps : List Pt) (lengths indices : List ℕ) : Type 0 where
+  pub known : Each (λ i. i < length ps) indices
+  pub no_empty : Each (λ n. 0 < n) lengths
+  pub within : sum lengths ≤ length indices
 
-line-text : (ps : List Pt) (lengths indices : List ℕ) (n : ℕ) → 0 < length lengths → n ≡ get_or lengths 0 0
-    → line ps lengths indices ≡ bytes "MULTIPOLYGON (" ++ (area ps indices 0 n ++ further ps lengths indices 1 n)
-unfolding multipolygon_line parted split
-line-text ps [] indices n h e = absurd (omega arith)
-line-text ps (k ∷ lengths) indices n h e =
-    rw e (ap (λ (l : List ℕ). bytes "MULTIPOLYGON (" ++ l) (append_assoc (area ps indices 0 k) (areas ps (k ∷ lengths) indices 1 k) (bytes ")")))
+first-at : (l : List ℕ) (i : ℕ) → get_or (drop i l) 0 0 ≡ get_or l i 0
+first-at l i = get_or-drop i l 0 0 ∙ ap (λ (j : ℕ). get_or l j 0) (add-zero i)
 
-pub line_first :
-    {out : List ℕ} (ps : List Pt) (lengths indices : List ℕ) (n : ℕ) → 0 < length lengths → n ≡ get_or lengths 0 0 → Room out 0 (line ps lengths indices)
-    → Partly out out 0 0 (line ps lengths indices) (bytes "MULTIPOLYGON (" ++ (area ps indices 0 n ++ further ps lengths indices 1 n))
-line_first ps lengths indices n h e r = partly_as (line-text ps lengths indices n h e) (partly_none r)
+module _ {ps : List Pt} (lengths indices : List ℕ) (i : ℕ) (h : i < length lengths) (a : Ahead ps (drop i lengths) indices) where
+  -- of the next
+  pub next_within : get_or lengths i 0 ≤ length indices
+  next_within = omega (arith, a.within, sum-next lengths i h)
+
+  pub next_some : 0 < get_or lengths i 0
+  next_some = let p : 0 < length (drop i lengths) = omega (arith, length-drop i lengths) in subst (λ (n : ℕ). 0 < n) (first-at lengths i) (each_at 0 (drop i lengths) 0 p a.no_empty)
+
+  pub next_known : Each (λ j. j < length ps) (take (get_or lengths i 0) indices)
+  next_known = each_take (get_or lengths i 0) indices a.known
+
+  -- and of those behind it
+  pub others_ahead : Ahead ps (drop (i + 1) lengths) (drop (get_or lengths i 0) indices)
+  others_ahead = record {
+    known = each-drop (get_or lengths i 0) indices a.known;
+    no_empty = subst (Each (λ n. 0 < n)) (drop-drop 1 i lengths) (each-drop 1 (drop i lengths) a.no_empty);
+    within = omega (arith, a.within, sum-next lengths i h, length-drop (get_or lengths i 0) indices);
+  }

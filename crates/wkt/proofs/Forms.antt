@@ -3,7 +3,7 @@ use Prim.Native.Nat.{ℕ}
 use native.Mathlib.Omega.{arith}
 use mathlib.Core.Path.{sym, ap, ◌∙◌}
 use mathlib.Core.List.{List, [], ◌∷◌, ◌++◌, map}
-use lib.ListN.{length, drop}
+use lib.ListN.{length}
 use Rattle.rules.specs.Plane.{Pt}
 use Rattle.rules.specs.Text.{bytes, point_text, behind, InForm, NotInForm, Ends}
 use Rattle.rules.proofs.TextLines.{ends_behind, closes, line_splits, no-corner}
@@ -13,9 +13,9 @@ use Rattle.wkt.specs.Reads.{closing, NoPoint, ring_rest, NoRing, Outlined, NoOut
 pub ends_closed : (ps : List Pt) → Ends (behind (map point_text ps) ++ closing)
 ends_closed ps = ends_behind ps closing (closes (bytes ")"))
 
-pub no-first-point : (line : List ℕ) (begin : ℕ) → NoPoint line begin → NoRing (drop begin line)
+pub no-first-point : (text : List ℕ) → NoPoint text → NoRing text
 unfolding NoRing NoPoint ring_rest
-no-first-point line begin h c cs e = let ps : List Pt = cs ++ (c ∷ []) in h c (behind (map point_text ps) ++ closing) e (ends_closed ps)
+no-first-point text h c cs e = let ps : List Pt = cs ++ (c ∷ []) in h c (behind (map point_text ps) ++ closing) e (ends_closed ps)
 
 pub no-polygon : (line : List ℕ) → NoOutline (bytes "POLYGON ((") line → NotInForm line
 unfolding NotInForm NoOutline ring_rest

@@ -1,6 +1,5 @@
 pub mod Spots
 pub mod Forms
-pub mod Marks
 pub mod Stores
 pub mod Passing
 pub mod WholeLines

@@ -1,11 +1,11 @@
 -- The points of a line, passed one after the other; and what they say of the line where they end.
 use Prim.Native.Char.{code}
-use Prim.Native.Nat.{ℕ, zero, suc, ◌+◌, ◌-◌, ◌≤◌, ◌<◌}
+use Prim.Native.Nat.{ℕ, suc, ◌+◌, ◌<◌}
 use native.Mathlib.Omega.{arith}
 use mathlib.Core.Path.{◌≡◌, refl, sym, ap, ◌∙◌}
 use mathlib.Core.Logic.{◌≢◌}
 use mathlib.Core.List.{List, [], ◌∷◌, ◌++◌, map, append_assoc, append-nil}
-use lib.ListN.{length, take, drop, length-append, length-drop}
+use lib.ListN.{length, take, length-append}
 use lib.Seq.{take_at}
 use lib.Ieee.{Float}
 use Rattle.algebra.specs.Rings.{last_of}
@@ -16,26 +16,10 @@ use Rattle.rules.specs.Text.{bytes, decimal, point_text, behind}
 use Rattle.rules.specs.Lines.{coordinates}
 use Rattle.rules.proofs.TextNumbers.{at_first, ends_nil}
 use Rattle.rules.proofs.TextLines.{point_parse, ends_behind, behind_parse, behind_snoc, GoesOn, stops}
-use Rattle.wkt.specs.Reads.{parting, closing, NoParting, PointAt, NoPoint, stored, Held, Passed, ring_rest, NoRing, RingRead}
+use Rattle.wkt.specs.Reads.{parting, closing, SpotRead, NoPoint, stored, Held, Passed, ring_rest, NoRing, RingRead}
 use Rattle.wkt.proofs.Forms.{ends_closed}
-use Rattle.wkt.proofs.Marks.{room_for_two}
+use Rattle.wkt.proofs.WholeLines.{spot_text}
 use Rattle.wkt.proofs.Stores.{length-stored, held_none, held_more}
-
--- ---- an answer that counts: one thing holds where it is 0, another where it is not
-
-pub none : {A B : Type 0} {n : ℕ} → n ≡ 0 → A → (n ≡ 0 → A) × (n ≢ 0 → B)
-none e a = (λ f. a, λ d. absurd (d e))
-
-pub some : {A B : Type 0} {n : ℕ} → 0 < n → B → (n ≡ 0 → A) × (n ≢ 0 → B)
-some p b = (λ e. absurd (omega arith), λ d. b)
-
--- ---- what stands between two places: how far apart they are, and what is there
-
-apart : (line m : List ℕ) (a e : ℕ) → drop a line ≡ m ++ drop e line → a ≤ length line → e ≤ length line → e ≡ a + length m
-apart line m a e h p q = omega (arith, simp (length-append, length-drop) at (ap length h))
-
-between : (line m : List ℕ) (a e : ℕ) → drop a line ≡ m ++ drop e line → a ≤ length line → e ≤ length line → take (e - a) (drop a line) ≡ m
-between line m a e h p q = ap (take (e - a)) h ∙ take_at m (drop e line) (e - a) (omega (arith, apart line m a e h p q))
 
 -- ---- from the first point on
 
@@ -43,66 +27,54 @@ point_some : (p : Pt) → 0 < length (point_text p)
 unfolding point_text
 point_some p = omega (arith, length-append (decimal p.x) (code " " ∷ decimal p.y))
 
-pub passed_first : (line : List ℕ) (coords : List Float) (begin end : ℕ) (x y : Float) → begin ≤ length line → length coords ≡ most_coordinates → PointAt line begin end x y
-    → Passed line begin (stored coords 0 x y) end begin end 1
+pub passed_first : {text written rest : List ℕ} {x y : Float} (coords : List Float) → length coords ≡ most_coordinates → SpotRead text x y written rest → Passed text written written rest 1 (stored coords 0 x y)
 unfolding behind
-passed_first line coords begin end x y o size h =
-    let e : end ≡ begin + length (point_text h.p) = apart line (point_text h.p) begin end h.text o h.within in
+passed_first {text} {written} {rest} {x} {y} coords size h =
     record {
       p = h.p;
       qs = [];
-      text = h.text;
+      is = spot_text h;
       ends = h.ends;
       counted = refl;
-      first = h.text;
-      last = h.text;
+      is_first = h.is_point;
+      is_last = h.is_point;
       held = held_more 0 [] h.p coords x y refl size h.worth-x h.worth-y (held_none coords);
       size = length-stored coords 0 x y ∙ size;
-      starts = (omega arith, h.within);
-      stands = (omega arith, h.within);
-      few = omega (arith, point_some h.p);
+      few = omega (arith, point_some h.p, ap length (spot_text h), length-append (point_text h.p) rest);
     }
 
-pub passed_more : {line : List ℕ} {begin : ℕ} {coords : List Float} {after from at n end : ℕ} {x y : Float} → Passed line begin coords after from at n
-    → drop at line ≡ parting ++ drop (at + 2) line → PointAt line (at + 2) end x y → Passed line begin (stored coords n x y) after (at + 2) end (n + 1)
-passed_more {line = line} {coords = coords} {at = at} {n = n} {end = end} {x = x} {y = y} w e h =
-    let o : at + 2 ≤ length line = room_for_two line at e in
-    let d : end ≡ at + 2 + length (point_text h.p) = apart line (point_text h.p) (at + 2) end h.text o h.within in
-    record {
-      p = w.p;
-      qs = w.qs ++ (h.p ∷ []);
-      text = w.text ∙ ap (λ (l : List ℕ). point_text w.p ++ l)
-          (ap (λ (l : List ℕ). behind (map point_text w.qs) ++ l) (e ∙ ap (λ (l : List ℕ). parting ++ l) h.text) ∙ sym (behind_snoc w.qs h.p (drop end line)));
-      ends = h.ends;
-      counted = omega (arith, w.counted, length-append w.qs (h.p ∷ []));
-      first = w.first;
-      last = h.text ∙ ap (λ (q : Pt). point_text q ++ drop end line) (sym (last_++ w.p w.qs h.p []));
-      held = held_more n (w.p ∷ w.qs) h.p coords x y (sym w.counted) w.size h.worth-x h.worth-y w.held;
-      size = length-stored coords n x y ∙ w.size;
-      starts = w.starts;
-      stands = (omega arith, h.within);
-      few = omega (arith, w.few);
-    }
-
--- the coordinates that a call left
-pub passed_as : {line : List ℕ} {begin : ℕ} {old new : List Float} {after from at n : ℕ} → new ≡ old → Passed line begin old after from at n → Passed line begin new after from at n
-passed_as e w = rw e w
+module _ {text first last rest : List ℕ} {n : ℕ} {coords : List Float} (w : Passed text first last rest n coords) {next : List ℕ} (parted : rest ≡ parting ++ next) where
+  pub passed_more : {x y : Float} {written behind_it : List ℕ} → SpotRead next x y written behind_it → Passed text first written behind_it (n + 1) (stored coords n x y)
+  passed_more {x} {y} {written} {behind_it} h =
+      record {
+        p = w.p;
+        qs = w.qs ++ (h.p ∷ []);
+        is = w.is ∙ ap (λ (l : List ℕ). point_text w.p ++ l)
+            (ap (λ (l : List ℕ). behind (map point_text w.qs) ++ l) (parted ∙ ap (λ (l : List ℕ). parting ++ l) (spot_text h)) ∙ sym (behind_snoc w.qs h.p behind_it));
+        ends = h.ends;
+        counted = omega (arith, w.counted, length-append w.qs (h.p ∷ []));
+        is_first = w.is_first;
+        is_last = h.is_point ∙ ap point_text (sym (last_++ w.p w.qs h.p []));
+        held = held_more n (w.p ∷ w.qs) h.p coords x y (sym w.counted) w.size h.worth-x h.worth-y w.held;
+        size = length-stored coords n x y ∙ w.size;
+        few = omega (arith, w.few, ap length parted, length-append parting next, ap length (spot_text h), length-append (point_text h.p) behind_it);
+      }
 
 -- ---- what stands behind the points of a ring
 
 -- a comma, a space and a point, or the closing
-no-next : (line : List ℕ) (at : ℕ) (rest : List Pt) → drop at line ≡ behind (map point_text rest) ++ closing → drop at line ≡ parting ++ drop (at + 2) line → NoPoint line (at + 2) → ⊥
+no-next : (rest : List ℕ) (ps : List Pt) → rest ≡ behind (map point_text ps) ++ closing → (next : List ℕ) → rest ≡ parting ++ next → NoPoint next → ⊥
 unfolding behind NoPoint
-no-next line at [] f e h = let k : ◌≡◌ {A = List ℕ} closing (parting ++ drop (at + 2) line) = sym f ∙ e in omega (arith, at_first k)
-no-next line at (q ∷ rest) f e h =
-    let k : ◌≡◌ {A = List ℕ} (parting ++ drop (at + 2) line) (parting ++ ((point_text q ++ behind (map point_text rest)) ++ closing)) = sym e ∙ f in
-    let j : drop (at + 2) line ≡ (point_text q ++ behind (map point_text rest)) ++ closing = cc in
-    h q (behind (map point_text rest) ++ closing) (j ∙ append_assoc (point_text q) (behind (map point_text rest)) closing) (ends_closed rest)
+no-next rest [] f next e h = let k : ◌≡◌ {A = List ℕ} closing (parting ++ next) = sym f ∙ e in omega (arith, at_first k)
+no-next rest (q ∷ ps) f next e h =
+    let k : ◌≡◌ {A = List ℕ} (parting ++ next) (parting ++ ((point_text q ++ behind (map point_text ps)) ++ closing)) = sym e ∙ f in
+    let j : next ≡ (point_text q ++ behind (map point_text ps)) ++ closing = cc in
+    h q (behind (map point_text ps) ++ closing) (j ∙ append_assoc (point_text q) (behind (map point_text ps)) closing) (ends_closed ps)
 
-ended : (line : List ℕ) (at : ℕ) (rest : List Pt) → drop at line ≡ behind (map point_text rest) ++ closing → NoParting line at → drop at line ≡ closing
-unfolding behind NoParting
-ended line at [] f h = f
-ended line at (q ∷ rest) f h = absurd (h ((point_text q ++ behind (map point_text rest)) ++ closing) f)
+ended : (rest : List ℕ) (ps : List Pt) → rest ≡ behind (map point_text ps) ++ closing → ((next : List ℕ) → rest ≢ parting ++ next) → rest ≡ closing
+unfolding behind
+ended rest [] f h = f
+ended rest (q ∷ ps) f h = absurd (h ((point_text q ++ behind (map point_text ps)) ++ closing) f)
 
 -- all but the last
 inits : Pt → List Pt → List Pt
@@ -136,50 +108,45 @@ record Going (p : Pt) (qs : List Pt) (r : List ℕ) : Type 0 where
   cs : List Pt
   goes : GoesOn qs (cs ++ (p ∷ [])) r (bytes ")")
 
-module _ {line : List ℕ} {begin : ℕ} {coords : List Float} {after from at n : ℕ} (w : Passed line begin coords after from at n) where
-  going : (c : Pt) (cs : List Pt) → drop begin line ≡ ring_rest c cs → Going w.p w.qs (drop at line)
+module _ {text first last rest : List ℕ} {n : ℕ} {coords : List Float} (w : Passed text first last rest n coords) where
+  going : (c : Pt) (cs : List Pt) → text ≡ ring_rest c cs → Going w.p w.qs rest
   unfolding ring_rest
   going c cs f =
-      let R : List ℕ = behind (map point_text w.qs) ++ drop at line in
+      let R : List ℕ = behind (map point_text w.qs) ++ rest in
       let S : List ℕ = behind (map point_text (cs ++ (c ∷ []))) ++ closing in
-      let a : (w.p ≡ c) × (R ≡ S) = point_parse w.p c R S (ends_behind w.qs (drop at line) w.ends) (ends_closed (cs ++ (c ∷ []))) (sym w.text ∙ f) in
+      let a : (w.p ≡ c) × (R ≡ S) = point_parse w.p c R S (ends_behind w.qs rest w.ends) (ends_closed (cs ++ (c ∷ []))) (sym w.is ∙ f) in
       let k : R ≡ behind (map point_text (cs ++ (w.p ∷ []))) ++ closing = a.1 ∙ ap (λ (q : Pt). behind (map point_text (cs ++ (q ∷ []))) ++ closing) (sym a.0) in
-      record { cs = cs; goes = behind_parse w.qs (cs ++ (w.p ∷ [])) (drop at line) (bytes ")") w.ends k }
+      record { cs = cs; goes = behind_parse w.qs (cs ++ (w.p ∷ [])) rest (bytes ")") w.ends k }
 
-  pub no-next-point : drop at line ≡ parting ++ drop (at + 2) line → NoPoint line (at + 2) → NoRing (drop begin line)
+  pub no_next_point : {next : List ℕ} → rest ≡ parting ++ next → NoPoint next → NoRing text
   unfolding NoRing
-  no-next-point e h c cs f = let g = going c cs f in no-next line at g.goes.rest g.goes.text e h
-
-  pub not-closed : NoParting line at → drop at line ≢ closing → NoRing (drop begin line)
-  unfolding NoRing
-  not-closed h k c cs f = let g = going c cs f in k (ended line at g.goes.rest g.goes.text h)
+  no_next_point {next} e h c cs f = let g = going c cs f in no-next rest g.goes.rest g.goes.text next e h
 
   -- closed, so the points are all there are
-  all-passed : (g : Going w.p w.qs (drop at line)) → drop at line ≡ closing → g.cs ++ (w.p ∷ []) ≡ w.qs
+  all-passed : (g : Going w.p w.qs rest) → rest ≡ closing → g.cs ++ (w.p ∷ []) ≡ w.qs
   all-passed g e = g.goes.whole ∙ ap (λ (l : List Pt). w.qs ++ l) (stops g.goes.rest (bytes ")") (bytes ")") (sym e ∙ g.goes.text)).0 ∙ append-nil w.qs
 
-  one_point : NoParting line at → n < 2 → NoRing (drop begin line)
-  unfolding NoRing
-  one_point h k c cs f =
-      let g = going c cs f in
-      let e : drop at line ≡ closing = ended line at g.goes.rest g.goes.text h in
-      omega (arith, w.counted, ap length (all-passed g e), length-append g.cs (w.p ∷ []))
+  module _ (no_more : (next : List ℕ) → rest ≢ parting ++ next) where
+    pub not_closed : rest ≢ closing → NoRing text
+    unfolding NoRing
+    not_closed k c cs f = let g = going c cs f in k (ended rest g.goes.rest g.goes.text no_more)
 
-  -- the first point and the last, as they stand in the line
-  first-text : take (after - begin) (drop begin line) ≡ point_text w.p
-  first-text = between line (point_text w.p) begin after w.first (omega (arith, w.starts)) w.starts.1
+    pub one_point : n < 2 → NoRing text
+    unfolding NoRing
+    one_point k c cs f =
+        let g = going c cs f in
+        let e : rest ≡ closing = ended rest g.goes.rest g.goes.text no_more in
+        omega (arith, w.counted, ap length (all-passed g e), length-append g.cs (w.p ∷ []))
 
-  last-text : take (at - from) (drop from line) ≡ point_text (last_of w.p w.qs)
-  last-text = between line (point_text (last_of w.p w.qs)) from at w.last (omega (arith, w.stands)) w.stands.1
+    pub not_repeated : last ≢ first → NoRing text
+    unfolding NoRing
+    not_repeated h c cs f =
+        let g = going c cs f in
+        let e : rest ≡ closing = ended rest g.goes.rest g.goes.text no_more in
+        let l : last_of w.p w.qs ≡ w.p = ap (last_of w.p) (sym (all-passed g e)) ∙ last_++ w.p g.cs w.p [] in
+        h (w.is_last ∙ ap point_text l ∙ sym w.is_first)
 
-  pub not_repeated : drop at line ≡ closing → take (after - begin) (drop begin line) ≢ take (at - from) (drop from line) → NoRing (drop begin line)
-  unfolding NoRing
-  not_repeated e h c cs f =
-      let g = going c cs f in
-      let l : last_of w.p w.qs ≡ w.p = ap (last_of w.p) (sym (all-passed g e)) ∙ last_++ w.p g.cs w.p [] in
-      h (first-text ∙ ap point_text (sym l) ∙ sym last-text)
-
-  pub read : drop at line ≡ closing → take (after - begin) (drop begin line) ≡ take (at - from) (drop from line) → (k : ℕ) → 0 < k → k + 1 ≡ n → RingRead (drop begin line) k coords
+  pub read : rest ≡ closing → last ≡ first → (k : ℕ) → 0 < k → k + 1 ≡ n → RingRead text k coords
   unfolding Held inits
   read e same k some_corner but-one = go w.qs refl
     where
@@ -187,12 +154,12 @@ module _ {line : List ℕ} {begin : ℕ} {coords : List Float} {after from at n 
       p = w.p
 
       l : p ≡ last_of p w.qs
-      l = same_point p (last_of p w.qs) (sym first-text ∙ same ∙ last-text)
+      l = same_point p (last_of p w.qs) (sym w.is_first ∙ sym same ∙ w.is_last)
 
-      t : drop begin line ≡ point_text p ++ (behind (map point_text w.qs) ++ closing)
-      t = w.text ∙ ap (λ (m : List ℕ). point_text p ++ (behind (map point_text w.qs) ++ m)) e
+      t : text ≡ point_text p ++ (behind (map point_text w.qs) ++ closing)
+      t = w.is ∙ ap (λ (m : List ℕ). point_text p ++ (behind (map point_text w.qs) ++ m)) e
 
-      go : (qs : List Pt) → w.qs ≡ qs → RingRead (drop begin line) k coords
+      go : (qs : List Pt) → w.qs ≡ qs → RingRead text k coords
       go [] q = absurd (omega (arith, w.counted, ap length q))
       go (q ∷ qs) f =
           let all : k ≡ length (p ∷ inits q qs) = omega (arith, w.counted, ap length f, length_inits q qs) in
@@ -200,14 +167,9 @@ module _ {line : List ℕ} {begin : ℕ} {coords : List Float} {after from at n 
           record {
             c = p;
             cs = inits q qs;
-            text = closed-ring p q qs (drop begin line) (t ∙ ap (λ (m : List Pt). point_text p ++ (behind (map point_text m) ++ closing)) f) (l ∙ ap (last_of p) f);
+            text = closed-ring p q qs text (t ∙ ap (λ (m : List Pt). point_text p ++ (behind (map point_text m) ++ closing)) f) (l ∙ ap (last_of p) f);
             known = record {
               counted = all;
               held = λ room. w.held k (omega arith) room ∙ ap coordinates (ap (take k) front ∙ take_at (p ∷ inits q qs) (last_of q qs ∷ []) k (sym all));
             };
           }
-
-pub few-points : {line : List ℕ} {begin : ℕ} {coords : List Float} {after from at : ℕ} (n : ℕ)
-    → (n ≡ 0 → NoRing (drop begin line)) × (n ≢ 0 → Passed line begin coords after from at n × NoParting line at) → n < 2 → NoRing (drop begin line)
-few-points zero t h = t.0 refl
-few-points (suc n) t h = let w = t.1 (λ z. omega arith) in one_point w.0 w.1 h

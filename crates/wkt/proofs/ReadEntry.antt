@@ -3,7 +3,7 @@ use Prim.Native.Nat.{ℕ, ◌*◌, ◌≤◌, ◌<◌}
 use native.Mathlib.Omega.{arith}
 use mathlib.Core.Path.{◌≡◌, sym, ap, ap₂, ◌∙◌}
 use mathlib.Core.List.{List, ◌∷◌}
-use lib.ListN.{length, take, length-take}
+use lib.ListN.{length, take}
 use lib.Ieee.{Float}
 use Rattle.rules.specs.Limits.{most_points}
 use Rattle.rules.specs.Plane.{Pt}
@@ -23,9 +23,6 @@ use Rattle.wkt.proofs.Corners.{coordinates-length}
 module _ {c : Pt} {cs : List Pt} {n : ℕ} {own : List Float} (k : Counted c cs n own) (few : n ≤ most_points) where
   pub held-length : length (take (2 * n) own) ≡ 2 * n
   held-length = ap length (k.held few) ∙ coordinates-length (c ∷ cs) ∙ ap (λ (m : ℕ). 2 * m) (sym k.counted)
-
-  pub own_holds : 2 * n ≤ length own
-  own_holds = omega (arith, held-length, length-take (2 * n) own)
 
 -- ---- a POLYGON line
 

@@ -1,55 +1,40 @@
 -- A point: two numbers with a space between them.
+use Rattle.std.proofs.Common.{ℕ, ◌-◌, ◌≡◌, ◌≢◌, List, ◌∷◌, ◌++◌, length, take, sym, ap, ◌∙◌, arith, length-append}
 use Prim.Native.Char.{code}
-use Prim.Native.Nat.{ℕ, ◌+◌}
-use native.Mathlib.Omega.{arith}
-use mathlib.Core.Path.{◌≡◌, sym, ap, ◌∙◌}
-use mathlib.Core.Bool.{Bool, true, false}
-use mathlib.Core.Logic.{◌≢◌}
-use mathlib.Core.List.{List, ◌∷◌, ◌++◌}
-use lib.ListN.{drop, get_or}
+use lib.Seq.{take_at}
 use lib.Ieee.{Float}
 use Rattle.rules.specs.Plane.{Pt}
 use Rattle.rules.specs.Text.{decimal, point_text}
 use Rattle.rules.proofs.TextNumbers.{decimal_parse}
 use Rattle.rules.proofs.TextLines.{point_splits}
-use Rattle.decimals.specs.Reads.{NumberAt, NoNumber}
-use Rattle.decimals.proofs.Places.{next_byte, first_is}
-use Rattle.wkt.specs.Reads.{PointAt, NoPoint}
+use Rattle.decimals.specs.Reads.{NumberRead, NoNumber}
+use Rattle.wkt.specs.Reads.{SpotRead, NoPoint}
 
-pub no-first : (line : List ℕ) (at : ℕ) → NoNumber line at → NoPoint line at
+pub no_first : (text : List ℕ) → NoNumber text → NoPoint text
 unfolding NoNumber NoPoint
-no-first line at h p rest t f = h p.x (code " " ∷ (decimal p.y ++ rest)) (t ∙ point_splits p rest) (λ d. omega arith)
+no_first text h p rest t f = h p.x (code " " ∷ (decimal p.y ++ rest)) (t ∙ point_splits p rest) (λ d. omega arith)
 
-module _ (line : List ℕ) (at mid : ℕ) (x : Float) (h : NumberAt line at mid x) where
+-- the front of a text, by what stands behind it
+front : (text l rest : List ℕ) → text ≡ l ++ rest → take (length text - length rest) text ≡ l
+front text l rest e = ap (take (length text - length rest)) e ∙ take_at l rest (length text - length rest) (omega (arith, ap length e, length-append l rest))
+
+module _ {text behind : List ℕ} {x : Float} (h : NumberRead text x behind) where
   -- behind the first number a point goes on with a space
-  goes_on : (p : Pt) (rest : List ℕ) → drop at line ≡ point_text p ++ rest → drop mid line ≡ code " " ∷ (decimal p.y ++ rest)
-  goes_on p rest t =
-      (decimal_parse h.z p.x (drop mid line) (code " " ∷ (decimal p.y ++ rest)) h.ends (λ d. omega arith) (sym h.text ∙ t ∙ point_splits p rest)).1
+  goes_on : (p : Pt) (rest : List ℕ) → text ≡ point_text p ++ rest → behind ≡ code " " ∷ (decimal p.y ++ rest)
+  goes_on p rest t = (decimal_parse h.z p.x behind (code " " ∷ (decimal p.y ++ rest)) h.ends (λ d. omega arith) (sym h.is ∙ t ∙ point_splits p rest)).1
 
-  pub no_space : get_or line mid 0 ≢ code " " → NoPoint line at
+  pub no_space : ((l : List ℕ) → behind ≢ code " " ∷ l) → NoPoint text
   unfolding NoPoint
-  no_space e p rest t f = e (first_is line mid (code " " ∷ (decimal p.y ++ rest)) (goes_on p rest t))
+  no_space e p rest t f = e (decimal p.y ++ rest) (goes_on p rest t)
 
-  module _ (e : get_or line mid 0 ≡ code " ") where
-    space : drop mid line ≡ code " " ∷ drop (mid + 1) line
-    space = next_byte line mid (code " ") e (omega arith)
-
-    point-there : (end : ℕ) (y : Float) → NumberAt line (mid + 1) end y → PointAt line at end x y
-    point-there end y k =
-        let p : Pt = record { x = h.z; y = k.z } in
-        record {
-          p = p;
-          text = h.text ∙ ap (λ (l : List ℕ). decimal h.z ++ l) (space ∙ ap (λ (l : List ℕ). code " " ∷ l) k.text) ∙ sym (point_splits p (drop end line));
-          ends = k.ends;
-          within = k.within;
-          worth-x = h.worth;
-          worth-y = k.worth;
-        }
-
-    no_second : NoNumber line (mid + 1) → NoPoint line at
+  module _ {second : List ℕ} (space : behind ≡ code " " ∷ second) where
+    pub no_second : NoNumber second → NoPoint text
     unfolding NoNumber NoPoint
     no_second k p rest t f = let m = sym space ∙ goes_on p rest t in k p.y rest (cc) f
 
-    pub second-told : (end : ℕ) (y : Float) (ok : Bool) → (ok ≡ true → NumberAt line (mid + 1) end y) × (ok ≡ false → NoNumber line (mid + 1))
-        → (ok ≡ true → PointAt line at end x y) × (ok ≡ false → NoPoint line at)
-    second-told end y ok t = (λ o. point-there end y (t.0 o), λ o. no_second (t.1 o))
+    pub spot_read : {y : Float} {rest : List ℕ} → NumberRead second y rest → SpotRead text x y (take (length text - length rest) text) rest
+    spot_read {y} {rest} k =
+        let p : Pt = record { x = h.z; y = k.z } in
+        let whole : text ≡ point_text p ++ rest = h.is ∙ ap (λ (l : List ℕ). decimal h.z ++ l) (space ∙ ap (λ (l : List ℕ). code " " ∷ l) k.is) ∙ sym (point_splits p rest) in
+        let written : take (length text - length rest) text ≡ point_text p = front text (point_text p) rest whole in
+        record { p = p; is = whole ∙ ap (λ (l : List ℕ). l ++ rest) (sym written); is_point = written; ends = k.ends; worth-x = h.worth; worth-y = k.worth }

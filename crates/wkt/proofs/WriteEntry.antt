@@ -1,15 +1,10 @@
 -- What the writer of a POLYGON line gives back, by its refusal and by what was written; and that two results which the promise allows are equal.
-use Prim.Native.Nat.{ℕ, ◌+◌, ◌/◌, ◌^◌, ◌≤◌, ◌<◌}
-use native.Mathlib.Omega.{arith}
-use mathlib.Core.Path.{◌≡◌, sym, ◌∙◌, ap}
-use mathlib.Core.Logic.{◌≢◌}
-use mathlib.Core.List.{List, [], ◌++◌}
+use Rattle.std.proofs.Common.{ℕ, ◌+◌, ◌^◌, ◌<◌, ◌≤◌, ◌≡◌, ◌≢◌, List, [], ◌++◌, length, take, sym, ap, ◌∙◌, arith}
 use lib.Dec.{ltb}
-use lib.ListN.{length, take}
 use lib.Ieee.{Float}
-use Rattle.algebra.specs.Lists.{count_from}
+use borrow.Author.Tests.{ltb-false, lt-ltb, le-ltb}
+use Rattle.algebra.specs.Lists.{Each, count_from}
 use Rattle.algebra.proofs.Lists.{each_imp}
-use borrow.Author.Tests.{ltb-false}
 use Rattle.algebra.proofs.Counting.{count-take, count-within, count-length}
 use Rattle.rules.specs.Limits.{most_points}
 use Rattle.rules.specs.Plane.{Pt}
@@ -18,31 +13,33 @@ use Rattle.rules.specs.Measure.{points}
 use Rattle.rules.specs.Refusals.{first_refusal, outline_checks}
 use Rattle.rules.specs.Text.{bytes, area_text, polygon_line}
 use Rattle.rules.specs.Lines.{polygon_room, polygon_checks, polygon_writer}
-use Rattle.rules.proofs.Rows.{passes, front_none, others_decide}
+use Rattle.rules.proofs.Rows.{passes, row_on, row_off, no_rows, front_none, front_gives, others_decide}
 use Rattle.rules.proofs.Fronts.{polygon-front}
-use Rattle.rules.proofs.Coordinates.{points-length}
 use Rattle.rules.proofs.Outline.{all-points}
 use Rattle.rules.proofs.Outlines.{Outlined, outlined}
 use Rattle.rules.proofs.GridSizes.{grid_points}
 use Rattle.rules.proofs.TextLengths.{polygon-short}
 use Rattle.rules.proofs.Answers.{writing-answered, writing_refused}
-use Rattle.grid.specs.Points.{Known}
 use Rattle.entries.specs.declared.Answer.{Answer}
 use Rattle.entries.proofs.Answers.{answers_equal}
+use Rattle.decimals.specs.declared.write.Text.{Text}
 use Rattle.decimals.specs.Writes.{Room, Wrote}
-use Rattle.decimals.proofs.Texts.{wrote-over, Partly, partly_none, partly_as}
+use Rattle.decimals.proofs.Texts.{wrote-over, Partly, partly_none}
 use Rattle.wkt.specs.Promise.{PolygonPromise}
 
 promised : (cs : List Float) (out : List ℕ) (r : Answer) (after : List ℕ) → polygon_writer cs out ≡ record { number = r.number; count = r.count; text = after } → PolygonPromise cs out r after
 promised cs out r after e = record { number = rw e; count = rw e; text = rw e }
 
 module _ (cs : List Float) (out : List ℕ) where
-  abbrev ps : List Pt
-  ps = points_of cs
-
-  pub refused : {n : ℕ} → n ≡ first_refusal (polygon_checks cs (length out)) → n ≢ 0 → PolygonPromise cs out (record { number = n; count = 0 }) out
+  pub refused_lem : {n : ℕ} → n ≡ first_refusal (polygon_checks cs (length out)) → n ≢ 0 → PolygonPromise cs out (record { number = n; count = 0 }) out
   unfolding polygon_writer
-  refused {n} e d = promised cs out (record { number = n; count = 0 }) out (writing_refused (polygon_checks cs (length out)) (polygon_line ps) out (λ z. d (e ∙ z)) ∙ ap (λ m. record { number = m; count = 0; text = out }) (sym e))
+  refused_lem {n} e d = promised cs out (record { number = n; count = 0 }) out (writing_refused (polygon_checks cs (length out)) (polygon_line (points_of cs)) out (λ z. d (e ∙ z)) ∙ ap (λ m. record { number = m; count = 0; text = out }) (sym e))
+
+  pub not_an_outline : {n : ℕ} → n ≡ first_refusal (outline_checks 1 most_points cs) → n ≢ 0 → PolygonPromise cs out (record { number = n; count = 0 }) out
+  not_an_outline e d = refused_lem (front_gives (polygon-front cs (length out)) e d) d
+
+  pub too_short : 0 ≡ first_refusal (outline_checks 1 most_points cs) → length out < polygon_room (length (points_of cs)) → PolygonPromise cs out (record { number = 6; count = 0 }) out
+  too_short e h = refused_lem (sym (others_decide (polygon-front cs (length out)) (sym e) ∙ row_on 6 [] (lt-ltb (length out) (polygon_room (length (points_of cs))) h))) (λ z. omega arith)
 
   -- what is known where no refusal applies
   module _ (none : first_refusal (polygon_checks cs (length out)) ≡ 0) where
@@ -52,52 +49,48 @@ module _ (cs : List Float) (out : List ℕ) where
     pub accepted : Outlined 1 most_points cs
     accepted = outlined 1 most_points cs first_none
 
-    enough : polygon_room (length ps) ≤ length out
-    enough = ltb-false (length out) (polygon_room (length ps)) (passes (ltb (length out) (polygon_room (length ps))) 5 [] (sym (others_decide (polygon-front cs (length out)) first_none) ∙ none)).0
+    enough : polygon_room (length (points_of cs)) ≤ length out
+    enough = ltb-false (length out) (polygon_room (length (points_of cs))) (passes (ltb (length out) (polygon_room (length (points_of cs)))) 5 [] (sym (others_decide (polygon-front cs (length out)) first_none) ∙ none)).0
 
-    pub short : length (polygon_line ps) ≤ polygon_room (length ps)
-    short = polygon-short ps (grid_points cs accepted.on_grid)
+    pub short : length (polygon_line (points_of cs)) ≤ polygon_room (length (points_of cs))
+    short = polygon-short (points_of cs) (grid_points cs accepted.on_grid)
 
-    pub line-room : Room out 0 (polygon_line ps)
-    line-room = record { fits = omega (arith, enough, short) }
+    pub line_room : Room out 0 (polygon_line (points_of cs))
+    line_room = record { fits = omega (arith, enough, short) }
 
-    module _ {after : List ℕ} {end : ℕ} (w : Wrote out after 0 end (polygon_line ps)) where
+    module _ {after : List ℕ} {end : ℕ} (w : Wrote out after 0 end (polygon_line (points_of cs))) where
       pub counted : end < 2 ^ 32
       counted = omega (arith, (wrote-over w).1, short, accepted.at_most)
 
       pub answered : PolygonPromise cs out (record { number = 0; count = end }) after
       unfolding polygon_writer
-      answered = rw ((wrote-over w).0, (wrote-over w).1) (promised cs out _ _ (writing-answered (polygon_checks cs (length out)) (polygon_line ps) out none))
+      answered = rw ((wrote-over w).0, (wrote-over w).1) (promised cs out _ _ (writing-answered (polygon_checks cs (length out)) (polygon_line (points_of cs)) out none))
+
+  pub none_applies : 0 ≡ first_refusal (outline_checks 1 most_points cs) → polygon_room (length (points_of cs)) ≤ length out → first_refusal (polygon_checks cs (length out)) ≡ 0
+  none_applies e h = others_decide (polygon-front cs (length out)) (sym e) ∙ row_off 6 [] (le-ltb (length out) (polygon_room (length (points_of cs))) h) ∙ no_rows
 
 -- ---- the ring of all points, which are the first of all numbers
 
-pub record AllPoints (cs : List Float) (all : List ℕ) : Type 0 where
-  pub within : length cs / 2 ≤ length all
-  pub size : length cs / 2 ≡ length (take (length cs / 2) all)
-  pub some : 0 < length (take (length cs / 2) all)
-  pub known : Known cs (take (length cs / 2) all)
-  pub corners : points (points_of cs) (take (length cs / 2) all) ≡ points_of cs
+pub record AllPoints (ps : List Pt) (ring : List ℕ) : Type 0 where
+  pub size : length ring ≡ length ps
+  pub known : Each (λ i. i < length ps) ring
+  pub corners : points ps ring ≡ ps
 
-pub all-numbers : (cs : List Float) (all : List ℕ) → Outlined 1 most_points cs → all ≡ count_from 0 most_points → AllPoints cs all
-all-numbers cs all outline numbers =
-    let n = length cs / 2 in
-    let ring : take n all ≡ count_from 0 n = ap (take n) numbers ∙ count-take 0 n most_points (omega (arith, outline.at_most, points-length cs)) in
-    let size : length (take n all) ≡ n = ap length ring ∙ count-length 0 n in
+pub all_points : (ps : List Pt) (n : ℕ) (all : List ℕ) → n ≡ length ps → length ps ≤ most_points → all ≡ count_from 0 most_points → AllPoints ps (take n all)
+all_points ps n all e few numbers =
+    let ring : take n all ≡ count_from 0 (length ps) = ap (take n) numbers ∙ ap (λ (k : ℕ). take k (count_from 0 most_points)) e ∙ count-take 0 (length ps) most_points (omega arith) in
     record {
-      within = omega (arith, ap length numbers, count-length 0 most_points, outline.at_most, points-length cs);
-      size = sym size;
-      some = omega (arith, outline.at_least, points-length cs);
-      known = record { on_grid = outline.on_grid; below = rw ring (each_imp below (count-within 0 n)) };
-      corners = ap (points (points_of cs)) (ring ∙ ap (count_from 0) (sym (points-length cs))) ∙ all-points (points_of cs);
+      size = ap length ring ∙ count-length 0 (length ps);
+      known = rw ring (each_imp below (count-within 0 (length ps)));
+      corners = ap (points ps) ring ∙ all-points ps;
     }
   where
-    below : (j : ℕ) → (0 ≤ j) × (j < 0 + length cs / 2) → j < length (points_of cs)
-    below j h = omega (arith, points-length cs)
+    below : (j : ℕ) → (0 ≤ j) × (j < 0 + length ps) → j < length ps
+    below j h = omega arith
 
-pub polygon-first : {out : List ℕ} (cs : List Float) (all : List ℕ) → AllPoints cs all → Room out 0 (polygon_line (points_of cs))
-    → Partly out out 0 0 (polygon_line (points_of cs)) (bytes "POLYGON " ++ area_text (points (points_of cs) (take (length cs / 2) all)))
+pub polygon_parts : {text : Text} (ps : List Pt) → text.end + length (polygon_line ps) ≤ length text.out.now → Partly text text (polygon_line ps) (bytes "POLYGON " ++ area_text ps)
 unfolding polygon_line
-polygon-first cs all a r = partly_as (ap (λ (ps : List Pt). bytes "POLYGON " ++ area_text ps) (sym a.corners)) (partly_none r)
+polygon_parts ps r = partly_none (record { fits = r })
 
 -- ---- two results that the promise allows are equal
 

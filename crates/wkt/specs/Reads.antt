@@ -1,42 +1,24 @@
--- What stands at a place of a line, and what was read so far.
-use Rattle.std.specs.Prelude.{ℕ, suc, ◌+◌, ◌*◌, ◌≤◌, ◌≡◌, cond, List, [], ◌∷◌, ◌++◌, map, ltb, length, take, drop, set, Float}
+-- What a text starts with, what was read of it so far, and what a whole line is.
+use Rattle.std.specs.Prelude.{ℕ, suc, ◌+◌, ◌*◌, ◌≤◌, ◌≡◌, cond, List, [], ◌∷◌, ◌++◌, map, ltb, length, take, set, Float}
 use Rattle.algebra.specs.Rings.{last_of}
 use Rattle.rules.specs.Limits.{most_points, most_coordinates}
 use Rattle.rules.specs.Plane.{Pt}
 use Rattle.rules.specs.Text.{bytes, point_text, behind, point_line, Ends, most_bytes}
 use Rattle.rules.specs.Lines.{coordinate, coordinates}
 
--- ---- around the points
-
--- what stands between two points
-abbrev pub parting : List ℕ
-parting = bytes ", "
-
--- what a line with a ring ends with
-abbrev pub closing : List ℕ
-closing = bytes "))"
-
-abbrev pub Starts : List ℕ → List ℕ → Type 0
-Starts word line = line ≡ word ++ drop (length word) line
-
-abbrev pub NoStart : List ℕ → List ℕ → Type 0
-NoStart word line = (m : List ℕ) → line ≡ word ++ m → ⊥
-
-unfoldable pub NoParting : List ℕ → ℕ → Type 0
-NoParting line at = (rest : List ℕ) → drop at line ≡ parting ++ rest → ⊥
-
 -- ---- points
 
-pub record PointAt (line : List ℕ) (at end : ℕ) (x y : Float) : Type 0 where
+-- the text is a point as it is written, and then the rest
+pub record SpotRead (text : List ℕ) (x y : Float) (written rest : List ℕ) : Type 0 where
   pub p : Pt
-  pub text : drop at line ≡ point_text p ++ drop end line
-  pub ends : Ends (drop end line)
-  pub within : end ≤ length line
+  pub is : text ≡ written ++ rest
+  pub is_point : written ≡ point_text p
+  pub ends : Ends rest
   pub worth-x : x ≡ coordinate p.x
   pub worth-y : y ≡ coordinate p.y
 
-unfoldable pub NoPoint : List ℕ → ℕ → Type 0
-NoPoint line at = (p : Pt) (rest : List ℕ) → drop at line ≡ point_text p ++ rest → Ends rest → ⊥
+unfoldable pub NoPoint : List ℕ → Type 0
+NoPoint text = (p : Pt) (rest : List ℕ) → text ≡ point_text p ++ rest → Ends rest → ⊥
 
 -- the coordinates with those of point number n written, if there is a place for it
 abbrev pub stored : List Float → ℕ → Float → Float → List Float
@@ -46,22 +28,28 @@ stored coords n x y = cond (ltb n most_points) (set (set coords (2 * n) x) (2 * 
 unfoldable pub Held : ℕ → List Pt → List Float → Type 0
 Held n ps coords = (k : ℕ) → k ≤ n → k ≤ most_points → take (2 * k) coords ≡ coordinates (take k ps)
 
--- from `begin` on n points were passed: the first ends at `after`, and the last stands from `from` to `at`
-pub record Passed (line : List ℕ) (begin : ℕ) (coords : List Float) (after from at n : ℕ) : Type 0 where
+-- the text is n points, of which the first and the last are written so, and then the rest
+pub record Passed (text first last rest : List ℕ) (n : ℕ) (coords : List Float) : Type 0 where
   pub p : Pt
   pub qs : List Pt
-  pub text : drop begin line ≡ point_text p ++ (behind (map point_text qs) ++ drop at line)
-  pub ends : Ends (drop at line)
+  pub is : text ≡ point_text p ++ (behind (map point_text qs) ++ rest)
+  pub ends : Ends rest
   pub counted : n ≡ suc (length qs)
-  pub first : drop begin line ≡ point_text p ++ drop after line
-  pub last : drop from line ≡ point_text (last_of p qs) ++ drop at line
+  pub is_first : first ≡ point_text p
+  pub is_last : last ≡ point_text (last_of p qs)
   pub held : Held n (p ∷ qs) coords
   pub size : length coords ≡ most_coordinates
-  pub starts : (begin ≤ after) × (after ≤ length line)
-  pub stands : (from ≤ at) × (at ≤ length line)
-  pub few : n ≤ at
+  pub few : n + length rest ≤ length text
 
 -- ---- rings and lines
+
+-- what stands between two points
+abbrev pub parting : List ℕ
+parting = bytes ", "
+
+-- what a line with a ring ends with
+abbrev pub closing : List ℕ
+closing = bytes "))"
 
 -- the points of a ring with these corners, the first again, and the closing
 unfoldable pub ring_rest : Pt → List Pt → List ℕ

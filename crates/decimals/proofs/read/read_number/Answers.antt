@@ -1,32 +1,19 @@
--- `read_number` meets its contract: behind a minus stand the digits of a number above zero.
-use Prim.Native.Char.{code}
-use native.Mathlib.Omega.{arith}
-use mathlib.Core.Path.{◌≡◌, sym, ◌∙◌}
-use Rattle.std.proofs.lemmas.Bool.Decides.{nat_tests}
-use lib.Dec.{lit<, ltb}
-use lib.ListN.{get_or}
-use Rattle.decimals.proofs.Places.{byte_inside}
-use Rattle.decimals.proofs.Numbers.{natural-small, plain_told, minus_told}
+use Rattle.rules.specs.Text.{bytes}
+use Rattle.decimals.proofs.Prefixes.{stripped, not_stripped}
+use Rattle.decimals.proofs.Numbers.{number_plain, no_number_plain, number_minus, no_minus_zero, no_number_minus}
 use Rattle.decimals.proofs.read.read_number.Goals as goal
 
-pub overflow_add-at : goal.overflow_add-at
-overflow_add-at c =
-    let minus : get_or c.args.line.now c.args.at 0 ≡ code "-" = sym c.byte.ensures ∙ c.if-byte-eq45.true in
-    omega (arith, byte_inside c.args.line.now c.args.at _ minus (lit< tt))
+pub returns-in_err-size-clause-no_number : goal.returns-in_err-size-clause-no_number
+returns-in_err-size-clause-no_number c = rw c.from_residual.ensures (no_number_minus (stripped _ (bytes "-") c.in-Some.ensures.cases) c.in_err-size.ensures.no_natural)
 
-pub below_zero-requires : goal.below_zero-requires
-below_zero-requires c = natural-small _ (c.read_natural-n.ensures.natural_at, c.read_natural-n.ensures.no_natural)
+pub returns-then-size-eq0-clause-no_number : goal.returns-then-size-eq0-clause-no_number
+returns-then-size-eq0-clause-no_number c = no_minus_zero (stripped _ (bytes "-") c.in-Some.ensures.cases) c.in_ok-size.ensures.natural c.if-size-eq0.true
 
-pub returns-then-byte-eq45 : goal.returns-then-byte-eq45
-returns-then-byte-eq45 c =
-    let minus : get_or c.args.line.now c.args.at 0 ≡ code "-" = sym c.byte.ensures ∙ c.if-byte-eq45.true in
-    let told =
-    minus_told _ _ minus _ _ _ _ (c.read_natural-n.ensures.natural_at, c.read_natural-n.ensures.no_natural) c.below_zero.ensures (ltb 0 c.read_natural-n.result.value) (λ t. grind (arith, nat_tests)) (λ t. grind (arith, nat_tests)) in record { number_at = told.0; no_number = told.1 }
+pub returns-in-Some-clause-number : goal.returns-in-Some-clause-number
+returns-in-Some-clause-number c = number_minus (stripped _ (bytes "-") c.in-Some.ensures.cases) c.in_ok-size.ensures.natural c.if-size-eq0.false
 
-pub above_zero-requires : goal.above_zero-requires
-above_zero-requires c = natural-small _ (c.read_natural-n-2.ensures.natural_at, c.read_natural-n-2.ensures.no_natural)
+pub returns-in_err-size-2-clause-no_number : goal.returns-in_err-size-2-clause-no_number
+returns-in_err-size-2-clause-no_number c = rw c.from_residual-in_err-size-2.ensures (no_number_plain (not_stripped _ (bytes "-") c.in_default.ensures.cases) c.in_err-size-2.ensures.no_natural)
 
-pub returns : goal.returns
-returns c =
-    let told =
-    plain_told _ _ _ _ _ _ (λ e. c.if-byte-eq45.false (c.byte.ensures ∙ e)) (c.read_natural-n-2.ensures.natural_at, c.read_natural-n-2.ensures.no_natural) c.above_zero.ensures in record { number_at = told.0; no_number = told.1 }
+pub returns-clause-number : goal.returns-clause-number
+returns-clause-number c = number_plain c.in_ok-size-2.ensures.natural

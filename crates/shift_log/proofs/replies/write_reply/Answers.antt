@@ -1,8 +1,9 @@
--- `write_reply` meets its contract.
-use native.Mathlib.Omega.{arith}
-use Rattle.decimals.proofs.Texts.{wrote_then}
+use Rattle.std.proofs.Common.{arith}
+use Rattle.decimals.proofs.Texts.{grew_then, wrote-length}
 use Rattle.shift_log.proofs.replies.write_reply.Goals as goal
 
-pub returns : goal.returns
-returns c =
-    record { wrote = wrote_then c.write_text-end.ensures.wrote c.write_byte.ensures; upper_bound = omega (arith, c.write_text-end.ensures.upper_bound, c.write_byte.ensures.ends) }
+pub push-requires : goal.push-requires
+push-requires c = omega (arith, c.requires, c.write_text.ensures.at_most, wrote-length c.write_text.ensures.grew.wrote)
+
+pub returns-clause-grew : goal.returns-clause-grew
+returns-clause-grew c = grew_then c.write_text.ensures.grew c.push.ensures

@@ -1,25 +1,19 @@
 -- `read_outline` meets its contract: too long, another word, or what the reading of the ring says.
-use native.Mathlib.Omega.{arith}
-use mathlib.Core.Path.{refl, ap}
-use borrow.Author.Tests.{not-true, not-false}
-use lib.ListN.{length, drop, length-append}
-use Rattle.wkt.specs.Reads.{Starts}
-use Rattle.wkt.proofs.Passing.{none}
-use Rattle.wkt.proofs.WholeLines.{long_outline, not_started, no-ring, ring_read}
+use Rattle.std.proofs.Common.{arith}
+use Rattle.std.proofs.lemmas.Option.{IfSome_then}
+use Rattle.decimals.proofs.Prefixes.{stripped, not_stripped}
+use Rattle.wkt.proofs.WholeLines.{if_none_then, long_outline, not_started, no_ring, outline_read}
 use Rattle.wkt.proofs.read.read_outline.Goals as goal
 
-pub returns-then-line-gt-MOST_BYTES : goal.returns-then-line-gt-MOST_BYTES
-returns-then-line-gt-MOST_BYTES c = let told = none refl (long_outline _ _ c.if-line-gt-MOST_BYTES.true) in record { no_outline = told.0; outline_read = told.1 }
+pub returns-then-line-gt-MOST_BYTES-clause-no_outline : goal.returns-then-line-gt-MOST_BYTES-clause-no_outline
+returns-then-line-gt-MOST_BYTES-clause-no_outline c = long_outline _ _ c.if-line-gt-MOST_BYTES.true
 
-pub returns-then-not-starts : goal.returns-then-not-starts
-returns-then-not-starts c = let told = none refl (not_started _ _ (c.starts.ensures.no_start (not-true _ c.if-not-starts.true-raw))) in record { no_outline = told.0; outline_read = told.1 }
+pub returns-in_err-strip_prefix-clause-no_outline : goal.returns-in_err-strip_prefix-clause-no_outline
+returns-in_err-strip_prefix-clause-no_outline c = rw c.from_residual.ensures (not_started _ _ (not_stripped _ _ c.in_err-strip_prefix.ensures.cases))
 
-pub read_ring-requires : goal.read_ring-requires
-read_ring-requires c =
-    let started : Starts c.args.word.now c.args.line.now = c.starts.ensures.starts (not-false _ c.if-not-starts.false-raw) in
-    (omega (arith, ap length started, length-append c.args.word.now (drop (length c.args.word.now) c.args.line.now)), c.requires)
+pub returns-clause-outline : goal.returns-clause-outline
+returns-clause-outline c =
+    IfSome_then _ c.read_ring.ensures.ring (λ corners ring. outline_read _ _ _ (stripped _ _ c.in_ok-strip_prefix.ensures.cases) (omega (arith, c.if-line-gt-MOST_BYTES.false)) ring)
 
-pub returns : goal.returns
-returns c =
-    let started : Starts c.args.word.now c.args.line.now = c.starts.ensures.starts (not-false _ c.if-not-starts.false-raw) in
-    record { no_outline = λ e. no-ring _ _ (c.read_ring.ensures.no_ring e); outline_read = λ e. ring_read _ _ (omega (arith, c.if-line-gt-MOST_BYTES.false)) started (c.read_ring.ensures.ring_read e) }
+pub returns-clause-no_outline : goal.returns-clause-no_outline
+returns-clause-no_outline c = if_none_then _ c.read_ring.ensures.no_ring (no_ring _ _ _ (stripped _ _ c.in_ok-strip_prefix.ensures.cases))

@@ -1,33 +1,19 @@
 -- `read_point` meets its contract: two numbers with a space between them, or the first place where something else stands.
-use Prim.Native.Char.{code}
-use native.Mathlib.Omega.{arith}
-use mathlib.Core.Path.{◌≡◌, sym, ◌∙◌}
-use borrow.Author.Tests.{not-true, not-false}
-use lib.Dec.{lit<}
-use lib.ListN.{get_or}
-use Rattle.decimals.specs.Reads.{NumberAt}
-use Rattle.decimals.proofs.Flags.{nothing}
-use Rattle.decimals.proofs.Places.{byte_inside}
-use Rattle.wkt.proofs.Spots.{no-first, no_space, second-told}
+use Rattle.rules.specs.Text.{bytes}
+use Rattle.decimals.proofs.Prefixes.{stripped, not_stripped}
+use Rattle.wkt.proofs.Spots.{no_first, no_space, no_second, spot_read}
 use Rattle.wkt.proofs.read.read_point.Goals as goal
 
-pub returns-then-not-x : goal.returns-then-not-x
-returns-then-not-x c = let told = nothing c.no_spot.ensures (no-first _ _ (c.read_number-x.ensures.no_number (not-true _ c.if-not-x.true))) in record { point_at = told.0; no_point = told.1 }
+pub returns-in_err-x-clause-no_point : goal.returns-in_err-x-clause-no_point
+returns-in_err-x-clause-no_point c = rw c.from_residual.ensures (no_first _ c.in_err-x.ensures.no_number)
 
-pub returns-then-byte-ne32 : goal.returns-then-byte-ne32
-returns-then-byte-ne32 c =
-    let number : NumberAt c.args.line.now c.args.at c.read_number-x.result.end c.read_number-x.result.value = c.read_number-x.ensures.number_at (not-false _ c.if-not-x.false) in
-    let told =
-    nothing c.no_spot-then-byte-ne32.ensures (no_space _ _ _ _ number (λ e. c.if-byte-ne32.true (c.byte.ensures ∙ e))) in record { point_at = told.0; no_point = told.1 }
+pub returns-in_err-strip_prefix-clause-no_point : goal.returns-in_err-strip_prefix-clause-no_point
+returns-in_err-strip_prefix-clause-no_point c =
+    rw c.from_residual-in_err-strip_prefix.ensures (no_space c.in_ok-x.ensures.number (not_stripped _ (bytes " ") c.in_err-strip_prefix.ensures.cases))
 
-pub overflow_add-x : goal.overflow_add-x
-overflow_add-x c =
-    let number : NumberAt c.args.line.now c.args.at c.read_number-x.result.end c.read_number-x.result.value = c.read_number-x.ensures.number_at (not-false _ c.if-not-x.false) in
-    let space : get_or c.args.line.now c.read_number-x.result.end 0 ≡ code " " = sym c.byte.ensures ∙ c.if-byte-ne32.false in
-    omega (arith, number.within, byte_inside c.args.line.now c.read_number-x.result.end _ space (lit< tt))
+pub returns-in_err-y-clause-no_point : goal.returns-in_err-y-clause-no_point
+returns-in_err-y-clause-no_point c =
+    rw c.from_residual-in_err-y.ensures (no_second c.in_ok-x.ensures.number (stripped _ (bytes " ") c.in_ok-strip_prefix.ensures.cases) c.in_err-y.ensures.no_number)
 
-pub returns : goal.returns
-returns c =
-    let number : NumberAt c.args.line.now c.args.at c.read_number-x.result.end c.read_number-x.result.value = c.read_number-x.ensures.number_at (not-false _ c.if-not-x.false) in
-    let space : get_or c.args.line.now c.read_number-x.result.end 0 ≡ code " " = sym c.byte.ensures ∙ c.if-byte-ne32.false in
-    let told = second-told _ _ _ _ number space _ _ _ (c.read_number-y.ensures.number_at, c.read_number-y.ensures.no_number) in record { point_at = told.0; no_point = told.1 }
+pub returns-clause-point : goal.returns-clause-point
+returns-clause-point c = spot_read c.in_ok-x.ensures.number (stripped _ (bytes " ") c.in_ok-strip_prefix.ensures.cases) c.in_ok-y.ensures.number

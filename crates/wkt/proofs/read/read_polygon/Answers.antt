@@ -1,42 +1,22 @@
 -- `read_polygon` meets its promise.
-use native.Mathlib.Omega.{arith}
-use mathlib.Core.Path.{sym}
-use Rattle.rules.specs.Text.{bytes}
-use Rattle.wkt.specs.Reads.{OutlineRead}
+use Rattle.std.proofs.Common.{ℕ, List, ◌++◌, sym, ap₂}
+use lib.ListN.{drop}
+use lib.Ieee.{Float}
 use Rattle.rules.proofs.LineAnswers.{reads-not}
 use Rattle.wkt.proofs.Forms.{no-polygon}
-use Rattle.wkt.proofs.ReadEntry.{too_many, held-length, own_holds, too_little_lem, answered}
+use Rattle.wkt.proofs.ReadEntry.{too_many, held-length, too_little_lem, answered}
 use Rattle.wkt.proofs.read.read_polygon.Goals as goal
 
-pub returns-then-n-eq0 : goal.returns-then-n-eq0
-returns-then-n-eq0 c = reads-not _ _ (no-polygon _ (c.read_outline-n.ensures.no_outline c.if-n-eq0.true))
+pub returns-in_default : goal.returns-in_default
+returns-in_default c = reads-not _ _ (no-polygon _ c.in_default.ensures.no_outline)
 
-pub returns-then-n-gt-MOST_POINTS : goal.returns-then-n-gt-MOST_POINTS
-returns-then-n-gt-MOST_POINTS c =
-    let was_read : OutlineRead (bytes "POLYGON ((") c.args.line.now c.read_outline-n.result c.read_outline-n.new.coords = c.read_outline-n.ensures.outline_read c.if-n-eq0.false in
-    too_many was_read _ c.if-n-gt-MOST_POINTS.true
+pub returns-then-count-gt-MOST_POINTS : goal.returns-then-count-gt-MOST_POINTS
+returns-then-count-gt-MOST_POINTS c = too_many c.in-Some.ensures.outline _ c.if-count-gt-MOST_POINTS.true
 
-pub returns-then-coords-n : goal.returns-then-coords-n
-returns-then-coords-n c =
-    let was_read : OutlineRead (bytes "POLYGON ((") c.args.line.now c.read_outline-n.result c.read_outline-n.new.coords = c.read_outline-n.ensures.outline_read c.if-n-eq0.false in
-    too_little_lem was_read c.if-n-gt-MOST_POINTS.false _ c.if-coords-n.true
-
-pub slice_bounds-own-end : goal.slice_bounds-own-end
-slice_bounds-own-end c =
-    let was_read : OutlineRead (bytes "POLYGON ((") c.args.line.now c.read_outline-n.result c.read_outline-n.new.coords = c.read_outline-n.ensures.outline_read c.if-n-eq0.false in
-    own_holds was_read.known c.if-n-gt-MOST_POINTS.false
-
-pub slice_bounds-copy_floats-end : goal.slice_bounds-copy_floats-end
-slice_bounds-copy_floats-end c =
-    let was_read : OutlineRead (bytes "POLYGON ((") c.args.line.now c.read_outline-n.result c.read_outline-n.new.coords = c.read_outline-n.ensures.outline_read c.if-n-eq0.false in
-    sym (held-length was_read.known c.if-n-gt-MOST_POINTS.false)
-
-pub copy_floats-requires : goal.copy_floats-requires
-copy_floats-requires c =
-    let was_read : OutlineRead (bytes "POLYGON ((") c.args.line.now c.read_outline-n.result c.read_outline-n.new.coords = c.read_outline-n.ensures.outline_read c.if-n-eq0.false in
-    omega (arith, held-length was_read.known c.if-n-gt-MOST_POINTS.false, c.if-coords-n.false)
+pub returns-then-coords-count : goal.returns-then-coords-count
+returns-then-coords-count c = too_little_lem c.in-Some.ensures.outline c.if-count-gt-MOST_POINTS.false _ c.if-coords-count.true
 
 pub returns : goal.returns
 returns c =
-    let was_read : OutlineRead (bytes "POLYGON ((") c.args.line.now c.read_outline-n.result c.read_outline-n.new.coords = c.read_outline-n.ensures.outline_read c.if-n-eq0.false in
-    answered was_read c.if-n-gt-MOST_POINTS.false _ _ c.if-coords-n.false c.copy_floats.ensures
+    answered c.in-Some.ensures.outline c.if-count-gt-MOST_POINTS.false _ _ c.if-coords-count.false
+    (ap₂ (λ (l : List Float) (k : ℕ). l ++ drop k c.args.coords.now) c.copy_from_slice.ensures.after (sym (held-length c.in-Some.ensures.outline.known c.if-count-gt-MOST_POINTS.false)))

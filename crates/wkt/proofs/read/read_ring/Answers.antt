@@ -1,42 +1,36 @@
--- `read_ring` meets its contract: each refusal is one that no ring gets.
-use native.Mathlib.Omega.{arith}
-use mathlib.Core.Path.{◌≡◌, refl}
-use borrow.Author.Tests.{not-true, not-false}
-use lib.ListN.{drop}
-use Rattle.wkt.specs.Reads.{closing, NoParting, Passed}
-use Rattle.wkt.proofs.Passing.{none, some, few-points, not-closed, not_repeated, read}
+use Rattle.std.proofs.Common.{◌≡◌, rules, arith}
+use Rattle.rules.specs.Text.{bytes}
+use Rattle.decimals.proofs.Prefixes.{stripped, not_stripped}
+use Rattle.wkt.specs.Reads.{NoRing, closing}
+use Rattle.wkt.proofs.Forms.{no-first-point}
+use Rattle.wkt.proofs.Passing.{passed_first, passed_more, no_next_point, one_point, not_closed, not_repeated, read}
 use Rattle.wkt.proofs.read.read_ring.Goals as goal
+use Rattle.wkt.proofs.read.read_ring.Goals.{then-count-lt2-via-then-count-lt2, then-count-lt2-via-else-count-lt2+then-ne, then-count-lt2-via-else-count-lt2+else-ne+then-ne-2}
 
-pub returns-then-points-lt2 : goal.returns-then-points-lt2
-returns-then-points-lt2 c = let told = none refl (few-points _ (c.read_points-points.ensures.no_ring, c.read_points-points.ensures.passed) c.if-points-lt2.true) in record { no_ring = told.0; ring_read = told.1 }
+pub returns-in_err-first-clause-no_ring : goal.returns-in_err-first-clause-no_ring
+returns-in_err-first-clause-no_ring c = rw c.from_residual.ensures (no-first-point _ c.in_err-first.ensures.no_point)
 
-pub ends-requires : goal.ends-requires
-ends-requires c =
-    let passed : Passed c.args.line.now c.args.begin c.read_points-points.new.coords c.read_points-points.result.after c.read_points-points.result.from c.read_points-points.result.end c.read_points-points.result.count × NoParting c.args.line.now c.read_points-points.result.end = c.read_points-points.ensures.passed (λ e. omega (arith, c.if-points-lt2.false)) in
-    passed.0.stands.1
+pub loop-behind-init : goal.loop-behind-init
+loop-behind-init c = rw c.put.ensures (passed_first _ c.told-coords c.in_ok-first.ensures.point)
 
-pub returns-then-not-ends : goal.returns-then-not-ends
-returns-then-not-ends c =
-    let passed : Passed c.args.line.now c.args.begin c.read_points-points.new.coords c.read_points-points.result.after c.read_points-points.result.from c.read_points-points.result.end c.read_points-points.result.count × NoParting c.args.line.now c.read_points-points.result.end = c.read_points-points.ensures.passed (λ e. omega (arith, c.if-points-lt2.false)) in
-    let p = passed in
-    let told =
-    none refl (not-closed p.0 p.1 (c.ends.ensures.line_nonzero (not-true _ c.if-not-ends.true-raw))) in record { no_ring = told.0; ring_read = told.1 }
+pub returns-in_err-last-clause-no_ring : goal.returns-in_err-last-clause-no_ring
+returns-in_err-last-clause-no_ring c = rw c.from_residual-in_err-last.ensures (no_next_point c.loop-behind.invariant (stripped _ (bytes ", ") c.in-Some.ensures.cases) c.in_err-last.ensures.no_point)
 
-pub repeats-requires : goal.repeats-requires
-repeats-requires c =
-    let passed : Passed c.args.line.now c.args.begin c.read_points-points.new.coords c.read_points-points.result.after c.read_points-points.result.from c.read_points-points.result.end c.read_points-points.result.count × NoParting c.args.line.now c.read_points-points.result.end = c.read_points-points.ensures.passed (λ e. omega (arith, c.if-points-lt2.false)) in
-    let w = passed.0 in (omega (arith, w.starts), omega (arith, w.starts), omega (arith, w.starts, w.stands), omega (arith, w.starts, w.stands))
+pub loop-behind-preserved : goal.loop-behind-preserved
+loop-behind-preserved c = rw c.put-in-Some.ensures (passed_more c.loop-behind.invariant (stripped _ (bytes ", ") c.in-Some.ensures.cases) c.in_ok-last.ensures.point)
 
-pub returns-then-not-repeats : goal.returns-then-not-repeats
-returns-then-not-repeats c =
-    let passed : Passed c.args.line.now c.args.begin c.read_points-points.new.coords c.read_points-points.result.after c.read_points-points.result.from c.read_points-points.result.end c.read_points-points.result.count × NoParting c.args.line.now c.read_points-points.result.end = c.read_points-points.ensures.passed (λ e. omega (arith, c.if-points-lt2.false)) in
-    let closed : drop c.read_points-points.result.end c.args.line.now ≡ closing = c.ends.ensures.line_value (not-false _ c.if-not-ends.false-raw) in
-    let told =
-    none refl (not_repeated passed.0 closed (c.repeats.ensures.line_nonzero (not-true _ c.if-not-repeats.true-raw))) in record { no_ring = told.0; ring_read = told.1 }
+pub returns-then-count-lt2-clause-no_ring : goal.returns-then-count-lt2-clause-no_ring
+returns-then-count-lt2-clause-no_ring c =
+    let w = c.loop-behind.invariant in
+    let alone = not_stripped _ (bytes ", ") c.in_default.ensures.cases in
+    elim c.then-count-lt2.branch as (λ _. NoRing c.args.text.now) [
+      | then-count-lt2-via-then-count-lt2 v ↦ one_point w alone v.if-count-lt2.true
+      | then-count-lt2-via-else-count-lt2+then-ne v ↦ not_closed w alone (search rules)
+      | then-count-lt2-via-else-count-lt2+else-ne+then-ne-2 v ↦ not_repeated w alone (search rules)
+    ]
 
-pub returns : goal.returns
-returns c =
-    let passed : Passed c.args.line.now c.args.begin c.read_points-points.new.coords c.read_points-points.result.after c.read_points-points.result.from c.read_points-points.result.end c.read_points-points.result.count × NoParting c.args.line.now c.read_points-points.result.end = c.read_points-points.ensures.passed (λ e. omega (arith, c.if-points-lt2.false)) in
-    let closed : drop c.read_points-points.result.end c.args.line.now ≡ closing = c.ends.ensures.line_value (not-false _ c.if-not-ends.false-raw) in
-    let told =
-    some (omega (arith, c.if-points-lt2.false)) (read passed.0 closed (c.repeats.ensures.line_value (not-false _ c.if-not-repeats.false-raw)) _ (omega (arith, c.if-points-lt2.false)) (omega (arith, c.if-points-lt2.false))) in record { no_ring = told.0; ring_read = told.1 }
+pub returns-clause-ring : goal.returns-clause-ring
+returns-clause-ring c =
+    let closed : c.loop-behind.last.rest.now ≡ closing = search rules in
+    let same : c.loop-behind.last.written.now ≡ c.in_ok-first.first.written.now = search rules in
+    read c.loop-behind.invariant closed same _ (omega arith) (omega arith)

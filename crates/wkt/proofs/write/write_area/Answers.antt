@@ -1,29 +1,38 @@
--- `write_area` meets its contract: a ring in parentheses.
-use mathlib.Core.List.{◌++◌}
-use Rattle.rules.specs.Grid.{points_of}
-use Rattle.rules.specs.Measure.{points}
-use Rattle.rules.specs.Text.{bytes, ring_text, area_text}
-use Rattle.decimals.proofs.Texts.{Partly, partly_byte, partly_fits, partly_more, partly_end}
-use Rattle.wkt.proofs.Rings.{area_first}
+use Rattle.algebra.proofs.Lists.{each_at}
+use Rattle.grid.specs.Listed.{listed}
+use Rattle.decimals.proofs.Texts.{partly_fits, partly_more, partly_room, partly_end}
+use Rattle.wkt.proofs.Rings.{area_first, corner_left, first_left}
 use Rattle.wkt.proofs.write.write_area.Goals as goal
 
-pub write_byte-start-requires : goal.write_byte-start-requires
-write_byte-start-requires c = partly_byte (area_first _ c.requires.room)
+pub push_word-requires : goal.push_word-requires
+push_word-requires c = partly_fits _ _ (area_first (listed c.args.points.now) c.args.ring.now c.requires.some c.requires.room)
 
-pub write_ring-end-requires : goal.write_ring-end-requires
-write_ring-end-requires c =
-    let ring-left : let corners = points (points_of c.args.coords.now) c.args.ring.now in
-    Partly c.args.out.now c.write_byte-start.new.out c.args.at c.write_byte-start.result (area_text corners) (ring_text corners ++ bytes ")") = partly_more _ _ (area_first _ c.requires.room) c.write_byte-start.ensures in
-    record { known = c.requires.known; ring_nonzero = c.requires.ring_nonzero; room = partly_fits _ _ ring-left }
+pub loop-i-init : goal.loop-i-init
+loop-i-init c = partly_more _ _ (area_first (listed c.args.points.now) c.args.ring.now c.requires.some c.requires.room) c.push_word.ensures
 
-pub write_byte-requires : goal.write_byte-requires
-write_byte-requires c =
-    let ring-left : let corners = points (points_of c.args.coords.now) c.args.ring.now in
-    Partly c.args.out.now c.write_byte-start.new.out c.args.at c.write_byte-start.result (area_text corners) (ring_text corners ++ bytes ")") = partly_more _ _ (area_first _ c.requires.room) c.write_byte-start.ensures in
-    partly_byte (partly_more _ _ ring-left c.write_ring-end.ensures)
+pub at-requires : goal.at-requires
+at-requires c = each_at 0 c.args.ring.now c.loop-i.i-index c.loop-i-test.true c.requires.known
+
+pub write_point-requires : goal.write_point-requires
+write_point-requires c = rw c.at.ensures (partly_fits _ _ (corner_left (listed c.args.points.now) c.args.ring.now _ c.loop-i.invariant c.loop-i-test.true))
+
+pub push_word-requires-in-loop-i : goal.push_word-requires-in-loop-i
+push_word-requires-in-loop-i c =
+    partly_fits _ _ (partly_more _ _ (corner_left (listed c.args.points.now) c.args.ring.now _ c.loop-i.invariant c.loop-i-test.true) (rw c.at.ensures at c.write_point.ensures))
+
+pub loop-i-preserved : goal.loop-i-preserved
+loop-i-preserved c =
+    partly_more _ _ (partly_more _ _ (corner_left (listed c.args.points.now) c.args.ring.now _ c.loop-i.invariant c.loop-i-test.true) (rw c.at.ensures at c.write_point.ensures))
+    c.push_word-in-loop-i.ensures
+
+pub write_point-requires-2 : goal.write_point-requires-2
+write_point-requires-2 c = rw c.at-2.ensures (partly_fits _ _ (first_left (listed c.args.points.now) c.args.ring.now _ c.loop-i.invariant c.loop-i-test.false))
+
+pub push_word-requires-2 : goal.push_word-requires-2
+push_word-requires-2 c =
+    partly_room (partly_more _ _ (first_left (listed c.args.points.now) c.args.ring.now _ c.loop-i.invariant c.loop-i-test.false) (rw c.at-2.ensures at c.write_point-2.ensures))
 
 pub returns : goal.returns
 returns c =
-    let ring-left : let corners = points (points_of c.args.coords.now) c.args.ring.now in
-    Partly c.args.out.now c.write_byte-start.new.out c.args.at c.write_byte-start.result (area_text corners) (ring_text corners ++ bytes ")") = partly_more _ _ (area_first _ c.requires.room) c.write_byte-start.ensures in
-    partly_end (partly_more _ _ ring-left c.write_ring-end.ensures) c.write_byte.ensures
+    partly_end (partly_more _ _ (first_left (listed c.args.points.now) c.args.ring.now _ c.loop-i.invariant c.loop-i-test.false) (rw c.at-2.ensures at c.write_point-2.ensures))
+    c.push_word-2.ensures

@@ -1,93 +1,67 @@
-use Prim.Native.Nat.{◌+◌}
-use native.Mathlib.Omega.{arith}
-use mathlib.Core.Path.{refl}
-use mathlib.Core.List.{◌++◌}
-use Rattle.rules.specs.Grid.{points_of}
-use Rattle.rules.specs.Text.{bytes}
-use Rattle.decimals.proofs.Texts.{Partly, partly_none, partly_byte, partly_fits, partly_more, partly_room, partly_end, partly_then, wrote-length}
-use Rattle.wkt.proofs.Areas.{line, area, further, Here, here, area_left, none_left, line_first}
+use Rattle.std.proofs.Common.{ℕ, ◌-◌, ◌≡◌, List, length, take, drop, arith, rules, length-drop}
+use lib.Seq.{take_all}
+use Rattle.grid.specs.Listed.{listed}
+use Rattle.decimals.proofs.Texts.{partly_none, partly_byte, partly_fits, partly_more, partly_room, partly_then, partly_end, wrote_at_last}
+use Rattle.wkt.proofs.Areas.{line_first, area_left, none_left, next_within, next_some, next_known, others_ahead}
 use Rattle.wkt.proofs.write.write_multipolygon.Goals as goal
 
-pub write_word-start-requires : goal.write_word-start-requires
-write_word-start-requires c =
-    partly_fits _ _ (line_first ((points_of c.args.coords.now)) c.args.lengths.now c.args.indices.now _ c.requires.lengths_nonzero.0 refl c.requires.room)
+-- all behind the first
+behind_first : (l : List ℕ) → take (length l - 1) (drop 1 l) ≡ drop 1 l
+behind_first l = take_all (length l - 1) (drop 1 l) (omega (arith, length-drop 1 l))
 
-pub bounds-lengths-0 : goal.bounds-lengths-0
-bounds-lengths-0 c = c.requires.lengths_nonzero.0
+pub push_word-requires : goal.push_word-requires
+push_word-requires c = partly_fits _ _ (line_first (listed c.args.points.now) c.args.lengths.now c.args.indices.now c.requires.some c.requires.room.fits)
 
-pub write_part-end-requires : goal.write_part-end-requires
-write_part-end-requires c =
-    let first_here : Here ((points_of c.args.coords.now)) c.args.lengths.now c.args.indices.now 0 0 c.wide-from.result = here _ _ _ 0 0 _ c.requires.each c.requires.lengths_nonzero.0 c.wide-from.ensures (omega (arith, c.requires.lengths_nonzero.1)) in
-    let word_left : Partly c.args.out.now c.write_word-start.new.out 0 c.write_word-start.result ((line ((points_of c.args.coords.now)) c.args.lengths.now c.args.indices.now)) ((area ((points_of c.args.coords.now)) c.args.indices.now 0 c.wide-from.result) ++ (further ((points_of c.args.coords.now)) c.args.lengths.now c.args.indices.now 1 c.wide-from.result)) = partly_more _ _ (line_first ((points_of c.args.coords.now)) c.args.lengths.now c.args.indices.now _ c.requires.lengths_nonzero.0 c.wide-from.ensures c.requires.room) c.write_word-start.ensures in
-    let h = first_here in
-    record { known = c.requires.known; n_nonzero = (h.some, h.within); room = partly_fits _ _ word_left }
+pub split_at-requires : goal.split_at-requires
+split_at-requires c = next_within c.args.lengths.now c.args.indices.now 0 c.requires.some (record { known = c.requires.known; no_empty = c.requires.no_empty; within = c.requires.in_bounds })
 
-pub loop-k-init : goal.loop-k-init
-loop-k-init c =
-    let first_here : Here ((points_of c.args.coords.now)) c.args.lengths.now c.args.indices.now 0 0 c.wide-from.result = here _ _ _ 0 0 _ c.requires.each c.requires.lengths_nonzero.0 c.wide-from.ensures (omega (arith, c.requires.lengths_nonzero.1)) in
-    let word_left : Partly c.args.out.now c.write_word-start.new.out 0 c.write_word-start.result ((line ((points_of c.args.coords.now)) c.args.lengths.now c.args.indices.now)) ((area ((points_of c.args.coords.now)) c.args.indices.now 0 c.wide-from.result) ++ (further ((points_of c.args.coords.now)) c.args.lengths.now c.args.indices.now 1 c.wide-from.result)) = partly_more _ _ (line_first ((points_of c.args.coords.now)) c.args.lengths.now c.args.indices.now _ c.requires.lengths_nonzero.0 c.wide-from.ensures c.requires.room) c.write_word-start.ensures in
-    let others-left : Partly c.args.out.now c.write_part-end.new.out 0 c.write_part-end.result ((line ((points_of c.args.coords.now)) c.args.lengths.now c.args.indices.now)) ((further ((points_of c.args.coords.now)) c.args.lengths.now c.args.indices.now 1 c.wide-from.result)) = partly_more _ _ word_left c.write_part-end.ensures in
-    (omega (arith, first_here.others), partly_none (partly_room others-left))
+pub write_area-requires-clause-known : goal.write_area-requires-clause-known
+write_area-requires-clause-known c = rw c.split_at.ensures.front (next_known c.args.lengths.now c.args.indices.now 0 c.requires.some (record { known = c.requires.known; no_empty = c.requires.no_empty; within = c.requires.in_bounds }))
 
-pub offset_bounds-lengths-k : goal.offset_bounds-lengths-k
-offset_bounds-lengths-k c = omega (arith, c.loop-k-test.true, c.well_formed)
+pub write_area-requires-clause-room : goal.write_area-requires-clause-room
+write_area-requires-clause-room c =
+    rw c.split_at.ensures.front
+    (partly_fits _ _ (partly_more _ _ (line_first (listed c.args.points.now) c.args.lengths.now c.args.indices.now c.requires.some c.requires.room.fits) c.push_word.ensures))
 
-pub bounds-lengths-k : goal.bounds-lengths-k
-bounds-lengths-k c = c.loop-k-test.true
+pub loop-n-init : goal.loop-n-init
+loop-n-init c = record {
+  left = rw (behind_first c.args.lengths.now, c.split_at.ensures.back)
+      (partly_none (partly_room (partly_more _ _ (partly_more _ _ (line_first (listed c.args.points.now) c.args.lengths.now c.args.indices.now c.requires.some c.requires.room.fits) c.push_word.ensures) (rw c.split_at.ensures.front at c.write_area.ensures))));
+  ahead = rw (behind_first c.args.lengths.now, c.split_at.ensures.back)
+      (others_ahead c.args.lengths.now c.args.indices.now 0 c.requires.some (record { known = c.requires.known; no_empty = c.requires.no_empty; within = c.requires.in_bounds }));
+}
 
-pub write_comma-next-requires : goal.write_comma-next-requires
-write_comma-next-requires c =
-    let next-left : Partly c.write_part-end.new.out c.loop-k.out c.write_part-end.result c.loop-k.end ((further ((points_of c.args.coords.now)) c.args.lengths.now c.args.indices.now 1 c.wide-from.result))
-    (bytes ", " ++ (((area ((points_of c.args.coords.now)) c.args.indices.now c.loop-k.from c.wide-n.result)) ++ (further ((points_of c.args.coords.now)) c.args.lengths.now c.args.indices.now (c.loop-k.k + 1) (c.loop-k.from + c.wide-n.result)))) = area_left ((points_of c.args.coords.now)) c.args.lengths.now c.args.indices.now c.loop-k.k c.loop-k.from c.loop-k.invariant.1 c.loop-k-test.true _ c.wide-n.ensures in
-    partly_fits _ _ next-left
+pub split_at-requires-in-loop-n : goal.split_at-requires-in-loop-n
+split_at-requires-in-loop-n c = next_within _ _ c.loop-n.n-index c.loop-n-test.true c.loop-n.invariant.ahead
 
-pub write_part-end-requires-in-loop-k : goal.write_part-end-requires-in-loop-k
-write_part-end-requires-in-loop-k c =
-    let next_here : Here ((points_of c.args.coords.now)) c.args.lengths.now c.args.indices.now c.loop-k.k c.loop-k.from c.wide-n.result = here _ _ _ _ _ _ c.requires.each c.loop-k-test.true c.wide-n.ensures c.loop-k.invariant.0 in
-    let next-left : Partly c.write_part-end.new.out c.loop-k.out c.write_part-end.result c.loop-k.end ((further ((points_of c.args.coords.now)) c.args.lengths.now c.args.indices.now 1 c.wide-from.result))
-    (bytes ", " ++ (((area ((points_of c.args.coords.now)) c.args.indices.now c.loop-k.from c.wide-n.result)) ++ (further ((points_of c.args.coords.now)) c.args.lengths.now c.args.indices.now (c.loop-k.k + 1) (c.loop-k.from + c.wide-n.result)))) = area_left ((points_of c.args.coords.now)) c.args.lengths.now c.args.indices.now c.loop-k.k c.loop-k.from c.loop-k.invariant.1 c.loop-k-test.true _ c.wide-n.ensures in
-    let comma_left : Partly c.write_part-end.new.out c.write_comma-next.new.out c.write_part-end.result c.write_comma-next.result ((further ((points_of c.args.coords.now)) c.args.lengths.now c.args.indices.now 1 c.wide-from.result))
-    (((area ((points_of c.args.coords.now)) c.args.indices.now c.loop-k.from c.wide-n.result)) ++ (further ((points_of c.args.coords.now)) c.args.lengths.now c.args.indices.now (c.loop-k.k + 1) (c.loop-k.from + c.wide-n.result))) = partly_more _ _ next-left c.write_comma-next.ensures in
-    let h = next_here in
-    record { known = c.requires.known; n_nonzero = (h.some, h.within); room = partly_fits (((area ((points_of c.args.coords.now)) c.args.indices.now c.loop-k.from c.wide-n.result))) _ comma_left }
+pub push_word-requires-in-loop-n : goal.push_word-requires-in-loop-n
+push_word-requires-in-loop-n c = partly_fits _ _ (area_left (listed c.args.points.now) _ _ c.loop-n.n-index c.loop-n.invariant.left c.loop-n-test.true)
 
-pub overflow_add-from : goal.overflow_add-from
-overflow_add-from c =
-    let next_here : Here ((points_of c.args.coords.now)) c.args.lengths.now c.args.indices.now c.loop-k.k c.loop-k.from c.wide-n.result = here _ _ _ _ _ _ c.requires.each c.loop-k-test.true c.wide-n.ensures c.loop-k.invariant.0 in
-    omega (arith, next_here.within, c.well_formed)
+pub write_area-requires-in-loop-n-clause-known : goal.write_area-requires-in-loop-n-clause-known
+write_area-requires-in-loop-n-clause-known c = rw c.split_at-in-loop-n.ensures.front (next_known _ _ c.loop-n.n-index c.loop-n-test.true c.loop-n.invariant.ahead)
 
-pub overflow_add-k : goal.overflow_add-k
-overflow_add-k c = omega (arith, c.loop-k-test.true, c.well_formed)
+pub write_area-requires-in-loop-n-clause-some : goal.write_area-requires-in-loop-n-clause-some
+write_area-requires-in-loop-n-clause-some c = omega (arith, next_some _ _ c.loop-n.n-index c.loop-n-test.true c.loop-n.invariant.ahead, c.split_at-in-loop-n.ensures.front_len)
 
-pub loop-k-smaller : goal.loop-k-smaller
-loop-k-smaller c = omega (arith, c.loop-k-test.true)
+pub write_area-requires-in-loop-n-clause-room : goal.write_area-requires-in-loop-n-clause-room
+write_area-requires-in-loop-n-clause-room c =
+    rw c.split_at-in-loop-n.ensures.front
+    (partly_fits _ _ (partly_more _ _ (area_left (listed c.args.points.now) _ _ c.loop-n.n-index c.loop-n.invariant.left c.loop-n-test.true) c.push_word-in-loop-n.ensures))
 
-pub loop-k-preserved : goal.loop-k-preserved
-loop-k-preserved c =
-    let next_here : Here ((points_of c.args.coords.now)) c.args.lengths.now c.args.indices.now c.loop-k.k c.loop-k.from c.wide-n.result = here _ _ _ _ _ _ c.requires.each c.loop-k-test.true c.wide-n.ensures c.loop-k.invariant.0 in
-    let next-left : Partly c.write_part-end.new.out c.loop-k.out c.write_part-end.result c.loop-k.end ((further ((points_of c.args.coords.now)) c.args.lengths.now c.args.indices.now 1 c.wide-from.result))
-    (bytes ", " ++ (((area ((points_of c.args.coords.now)) c.args.indices.now c.loop-k.from c.wide-n.result)) ++ (further ((points_of c.args.coords.now)) c.args.lengths.now c.args.indices.now (c.loop-k.k + 1) (c.loop-k.from + c.wide-n.result)))) = area_left ((points_of c.args.coords.now)) c.args.lengths.now c.args.indices.now c.loop-k.k c.loop-k.from c.loop-k.invariant.1 c.loop-k-test.true _ c.wide-n.ensures in
-    let comma_left : Partly c.write_part-end.new.out c.write_comma-next.new.out c.write_part-end.result c.write_comma-next.result ((further ((points_of c.args.coords.now)) c.args.lengths.now c.args.indices.now 1 c.wide-from.result))
-    (((area ((points_of c.args.coords.now)) c.args.indices.now c.loop-k.from c.wide-n.result)) ++ (further ((points_of c.args.coords.now)) c.args.lengths.now c.args.indices.now (c.loop-k.k + 1) (c.loop-k.from + c.wide-n.result))) = partly_more _ _ next-left c.write_comma-next.ensures in
-    (next_here.others, partly_more (((area ((points_of c.args.coords.now)) c.args.indices.now c.loop-k.from c.wide-n.result))) _ comma_left c.write_part-end-in-loop-k.ensures)
+pub loop-n-preserved : goal.loop-n-preserved
+loop-n-preserved c = record {
+  left = rw c.split_at-in-loop-n.ensures.back
+      (partly_more _ _ (partly_more _ _ (area_left (listed c.args.points.now) _ _ c.loop-n.n-index c.loop-n.invariant.left c.loop-n-test.true) c.push_word-in-loop-n.ensures)
+      (rw c.split_at-in-loop-n.ensures.front at c.write_area-in-loop-n.ensures));
+  ahead = rw c.split_at-in-loop-n.ensures.back (others_ahead _ _ c.loop-n.n-index c.loop-n-test.true c.loop-n.invariant.ahead);
+}
 
-pub write_byte-requires : goal.write_byte-requires
-write_byte-requires c =
-    let word_left : Partly c.args.out.now c.write_word-start.new.out 0 c.write_word-start.result ((line ((points_of c.args.coords.now)) c.args.lengths.now c.args.indices.now)) ((area ((points_of c.args.coords.now)) c.args.indices.now 0 c.wide-from.result) ++ (further ((points_of c.args.coords.now)) c.args.lengths.now c.args.indices.now 1 c.wide-from.result)) = partly_more _ _ (line_first ((points_of c.args.coords.now)) c.args.lengths.now c.args.indices.now _ c.requires.lengths_nonzero.0 c.wide-from.ensures c.requires.room) c.write_word-start.ensures in
-    let others-left : Partly c.args.out.now c.write_part-end.new.out 0 c.write_part-end.result ((line ((points_of c.args.coords.now)) c.args.lengths.now c.args.indices.now)) ((further ((points_of c.args.coords.now)) c.args.lengths.now c.args.indices.now 1 c.wide-from.result)) = partly_more _ _ word_left c.write_part-end.ensures in
-    let close-left : Partly c.args.out.now c.loop-k.out 0 c.loop-k.end ((line ((points_of c.args.coords.now)) c.args.lengths.now c.args.indices.now)) (bytes ")") = none_left ((points_of c.args.coords.now)) c.args.lengths.now c.args.indices.now c.loop-k.k c.loop-k.from (partly_then others-left c.loop-k.invariant.1) c.loop-k-test.false in
-    partly_byte close-left
-
-pub shape_of-out : goal.shape_of-out
-shape_of-out c =
-    let word_left : Partly c.args.out.now c.write_word-start.new.out 0 c.write_word-start.result ((line ((points_of c.args.coords.now)) c.args.lengths.now c.args.indices.now)) ((area ((points_of c.args.coords.now)) c.args.indices.now 0 c.wide-from.result) ++ (further ((points_of c.args.coords.now)) c.args.lengths.now c.args.indices.now 1 c.wide-from.result)) = partly_more _ _ (line_first ((points_of c.args.coords.now)) c.args.lengths.now c.args.indices.now _ c.requires.lengths_nonzero.0 c.wide-from.ensures c.requires.room) c.write_word-start.ensures in
-    let others-left : Partly c.args.out.now c.write_part-end.new.out 0 c.write_part-end.result ((line ((points_of c.args.coords.now)) c.args.lengths.now c.args.indices.now)) ((further ((points_of c.args.coords.now)) c.args.lengths.now c.args.indices.now 1 c.wide-from.result)) = partly_more _ _ word_left c.write_part-end.ensures in
-    let close-left : Partly c.args.out.now c.loop-k.out 0 c.loop-k.end ((line ((points_of c.args.coords.now)) c.args.lengths.now c.args.indices.now)) (bytes ")") = none_left ((points_of c.args.coords.now)) c.args.lengths.now c.args.indices.now c.loop-k.k c.loop-k.from (partly_then others-left c.loop-k.invariant.1) c.loop-k-test.false in
-    wrote-length (partly_end close-left c.write_byte.ensures)
+pub push-requires : goal.push-requires
+push-requires c = partly_byte (none_left (listed c.args.points.now) _ _ c.loop-n.n-index c.loop-n.invariant.left c.loop-n-test.false)
 
 pub returns : goal.returns
 returns c =
-    let word_left : Partly c.args.out.now c.write_word-start.new.out 0 c.write_word-start.result ((line ((points_of c.args.coords.now)) c.args.lengths.now c.args.indices.now)) ((area ((points_of c.args.coords.now)) c.args.indices.now 0 c.wide-from.result) ++ (further ((points_of c.args.coords.now)) c.args.lengths.now c.args.indices.now 1 c.wide-from.result)) = partly_more _ _ (line_first ((points_of c.args.coords.now)) c.args.lengths.now c.args.indices.now _ c.requires.lengths_nonzero.0 c.wide-from.ensures c.requires.room) c.write_word-start.ensures in
-    let others-left : Partly c.args.out.now c.write_part-end.new.out 0 c.write_part-end.result ((line ((points_of c.args.coords.now)) c.args.lengths.now c.args.indices.now)) ((further ((points_of c.args.coords.now)) c.args.lengths.now c.args.indices.now 1 c.wide-from.result)) = partly_more _ _ word_left c.write_part-end.ensures in
-    let close-left : Partly c.args.out.now c.loop-k.out 0 c.loop-k.end ((line ((points_of c.args.coords.now)) c.args.lengths.now c.args.indices.now)) (bytes ")") = none_left ((points_of c.args.coords.now)) c.args.lengths.now c.args.indices.now c.loop-k.k c.loop-k.from (partly_then others-left c.loop-k.invariant.1) c.loop-k-test.false in
-    partly_end close-left c.write_byte.ensures
+    let last = none_left (listed c.args.points.now) _ _ c.loop-n.n-index c.loop-n.invariant.left c.loop-n-test.false in
+    let others = partly_then (partly_more _ _ (partly_more _ _ (line_first (listed c.args.points.now) c.args.lengths.now c.args.indices.now c.requires.some c.requires.room.fits) c.push_word.ensures) (rw c.split_at.ensures.front at c.write_area.ensures))
+    (rw (behind_first c.args.lengths.now, c.split_at.ensures.back) at last) in
+    wrote_at_last (partly_end others c.push.ensures).wrote (search rules)

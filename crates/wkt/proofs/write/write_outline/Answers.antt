@@ -1,29 +1,22 @@
 -- `write_outline` meets its contract: the word, and the area of all points.
-use Rattle.decimals.proofs.Texts.{partly_fits, partly_more, partly_room, partly_end}
-use Rattle.wkt.proofs.WriteEntry.{AllPoints, all-numbers, accepted, line-room, polygon-first}
+use Rattle.std.proofs.Common.{rules}
+use Rattle.grid.specs.Listed.{listed}
+use Rattle.decimals.proofs.Texts.{partly_fits, partly_more, partly_room, partly_end, wrote_at_last}
+use Rattle.wkt.proofs.WriteEntry.{all_points, polygon_parts}
 use Rattle.wkt.proofs.write.write_outline.Goals as goal
 
-pub write_word-start-requires : goal.write_word-start-requires
-write_word-start-requires c =
-    let ring : AllPoints c.args.coords.now c.numbers-all.result = all-numbers _ _ (accepted _ c.args.out.now c.requires) c.numbers-all.ensures in
-    partly_fits _ _ (polygon-first _ _ ring (line-room _ _ c.requires))
+pub push_word-requires : goal.push_word-requires
+push_word-requires c = partly_fits _ _ (polygon_parts (listed c.args.points.now) c.requires.room.fits)
 
-pub slice_bounds-all-end : goal.slice_bounds-all-end
-slice_bounds-all-end c =
-    let ring : AllPoints c.args.coords.now c.numbers-all.result = all-numbers _ _ (accepted _ c.args.out.now c.requires) c.numbers-all.ensures in
-    ring.within
+pub write_area-requires-clause-known : goal.write_area-requires-clause-known
+write_area-requires-clause-known c = (all_points (listed c.args.points.now) _ _ c.count.ensures c.requires.at_most c.numbers-all.ensures).known
 
-pub slice_bounds-write_area-end : goal.slice_bounds-write_area-end
-slice_bounds-write_area-end c =
-    let ring : AllPoints c.args.coords.now c.numbers-all.result = all-numbers _ _ (accepted _ c.args.out.now c.requires) c.numbers-all.ensures in
-    ring.size
-
-pub write_area-requires : goal.write_area-requires
-write_area-requires c =
-    let ring : AllPoints c.args.coords.now c.numbers-all.result = all-numbers _ _ (accepted _ c.args.out.now c.requires) c.numbers-all.ensures in
-    record { known = ring.known; ring_nonzero = ring.some; room = partly_room (partly_more _ _ (polygon-first _ _ ring (line-room _ _ c.requires)) c.write_word-start.ensures) }
+pub write_area-requires-clause-room : goal.write_area-requires-clause-room
+write_area-requires-clause-room c =
+    rw (all_points (listed c.args.points.now) _ _ c.count.ensures c.requires.at_most c.numbers-all.ensures).corners
+    (partly_room (partly_more _ _ (polygon_parts (listed c.args.points.now) c.requires.room.fits) c.push_word.ensures))
 
 pub returns : goal.returns
 returns c =
-    let ring : AllPoints c.args.coords.now c.numbers-all.result = all-numbers _ _ (accepted _ c.args.out.now c.requires) c.numbers-all.ensures in
-    partly_end (partly_more _ _ (polygon-first _ _ ring (line-room _ _ c.requires)) c.write_word-start.ensures) c.write_area.ensures
+    let area = rw (all_points (listed c.args.points.now) _ _ c.count.ensures c.requires.at_most c.numbers-all.ensures).corners at c.write_area.ensures in
+    wrote_at_last (partly_end (partly_more _ _ (polygon_parts (listed c.args.points.now) c.requires.room.fits) c.push_word.ensures) area).wrote (search rules)

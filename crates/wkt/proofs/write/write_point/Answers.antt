@@ -1,22 +1,16 @@
--- `write_point` meets its contract: two numbers and a space between them.
-use Rattle.rules.specs.Text.{decimal, point_text}
-use Rattle.grid.specs.Points.{pt_of}
-use Rattle.decimals.proofs.Texts.{Partly, partly_byte, partly_fits, partly_more, partly_room, partly_end}
-use Rattle.wkt.proofs.Rings.{both_on_grid, point-first}
+-- `write_point` meets its contract: two numbers with a space between them.
+use Rattle.decimals.proofs.Texts.{partly_byte, partly_fits, partly_more, partly_room, partly_end}
+use Rattle.wkt.proofs.Rings.{point_first}
 use Rattle.wkt.proofs.write.write_point.Goals as goal
 
-pub write_number-mid-requires : goal.write_number-mid-requires
-write_number-mid-requires c = record { x_value = (both_on_grid _ c.requires.p_value).0; room = partly_fits _ _ (point-first _ c.requires.room) }
+pub push_number-requires-clause-room : goal.push_number-requires-clause-room
+push_number-requires-clause-room c = partly_fits _ _ (point_first _ c.requires)
 
-pub write_byte-next-requires : goal.write_byte-next-requires
-write_byte-next-requires c = partly_byte (partly_more _ _ (point-first _ c.requires.room) c.write_number-mid.ensures)
+pub push-requires : goal.push-requires
+push-requires c = partly_byte (partly_more _ _ (point_first _ c.requires) c.push_number.ensures)
 
-pub write_number-requires : goal.write_number-requires
-write_number-requires c =
-    let y-left : Partly c.args.out.now c.write_byte-next.new.out c.args.at c.write_byte-next.result (point_text (pt_of c.args.p)) (decimal (pt_of c.args.p).y) = partly_more _ _ (partly_more _ _ (point-first _ c.requires.room) c.write_number-mid.ensures) c.write_byte-next.ensures in
-    record { x_value = (both_on_grid _ c.requires.p_value).1; room = partly_room y-left }
+pub push_number-requires-2-clause-room : goal.push_number-requires-2-clause-room
+push_number-requires-2-clause-room c = partly_room (partly_more _ _ (partly_more _ _ (point_first _ c.requires) c.push_number.ensures) c.push.ensures)
 
 pub returns : goal.returns
-returns c =
-    let y-left : Partly c.args.out.now c.write_byte-next.new.out c.args.at c.write_byte-next.result (point_text (pt_of c.args.p)) (decimal (pt_of c.args.p).y) = partly_more _ _ (partly_more _ _ (point-first _ c.requires.room) c.write_number-mid.ensures) c.write_byte-next.ensures in
-    partly_end y-left c.write_number.ensures
+returns c = partly_end (partly_more _ _ (partly_more _ _ (point_first _ c.requires) c.push_number.ensures) c.push.ensures) c.push_number-2.ensures

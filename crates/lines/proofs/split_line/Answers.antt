@@ -1,0 +1,12 @@
+use Rattle.std.proofs.Common.{◌+◌}
+use Rattle.lines.proofs.FirstLine.{none_there, around, to_the_end}
+use Rattle.lines.proofs.split_line.Goals as goal
+
+pub returns-in_err-n-clause-no_newline : goal.returns-in_err-n-clause-no_newline
+returns-in_err-n-clause-no_newline c = rw c.from_residual.ensures (none_there c.args.bytes.now c.in_err-n.ensures)
+
+pub returns-clause-line : goal.returns-clause-line
+returns-clause-line c = (around c.args.bytes.now c.in_ok-n.ensures).line
+
+pub returns-clause-parts : goal.returns-clause-parts
+returns-clause-parts c = rw (to_the_end c.args.bytes.now (c.in_ok-n.n + 1)) (around c.args.bytes.now c.in_ok-n.ensures).parts
