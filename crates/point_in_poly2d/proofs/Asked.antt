@@ -1,95 +1,86 @@
--- What an entry answers, for either test: its refusal, or what the test says. And that two answers allowed by a promise are equal.
-use Prim.Native.Nat.{ℕ, zero, suc}
-use native.Mathlib.Omega.{arith}
+-- What comes back of an entry, for either test: its refusal, or what the test says. And that two results allowed by a promise are equal.
+use Prim.Native.Nat.{ℕ}
 use mathlib.Core.Path.{◌≡◌, refl, sym, ◌∙◌, ap}
-use mathlib.Core.Logic.{◌≢◌}
-use mathlib.Core.Bool.{true, false, not, ◌||◌}
 use mathlib.Core.List.{List, [], ◌∷◌}
 use lib.Ieee.{Float}
-use Rattle.algebra.proofs.Equal.{or-false, not-false}
+use Rattle.std.specs.Prelude.{Result, Ok, Err}
 use Rattle.rules.specs.Limits.{most_points}
 use Rattle.rules.specs.Plane.{Pt}
-use Rattle.rules.specs.Grid.{on_grid, point_of, points_of}
+use Rattle.rules.specs.Grid.{point_of, points_of}
 use Rattle.rules.specs.Refusals.{◌gives◌, off_grid, first_refusal, outline_checks, point_test_checks}
-use Rattle.rules.specs.Border.{Position, outside, inside, border}
+use Rattle.rules.specs.Border as Rules
+use Rattle.rules.specs.Border.{outside, inside, border}
 use Rattle.rules.specs.Entries.{Asking, asking, point_in_poly2d, point_in_convex_poly2d}
-use Rattle.rules.proofs.Rows.{passes, front_none, others_decide}
+use Rattle.rules.proofs.Rows.{others_decide, front_gives}
 use Rattle.rules.proofs.Fronts.{asked-front}
-use Rattle.rules.proofs.Outlines.{outlined}
-use Rattle.rules.proofs.Answers.{asking-number, asking-answered, asking_refused, asking_none}
-use Rattle.grid.specs.declared.point.Point.{Point}
-use Rattle.grid.specs.Points.{on_grid_pt}
-use Rattle.point_in_poly2d.specs.declared.Verdict.{Verdict}
-use Rattle.point_in_poly2d.specs.declared.Verdict.TheVariants.{Refused}
-use Rattle.point_in_poly2d.specs.Verdicts.{number_of, answer_of, answered, verdict}
+use Rattle.rules.proofs.Answers.{asking-number, asking-answered, asking_none}
+use Rattle.entries.specs.declared.Refusal.{Refusal}
+use Rattle.entries.specs.Refusals.{number_of, refused}
+use Rattle.entries.proofs.Refusals.{number_one, number_above}
+use Rattle.point_in_poly2d.specs.declared.Position.{Position}
+use Rattle.point_in_poly2d.specs.declared.Position.TheVariants.{Outside, Inside, Border}
+use Rattle.point_in_poly2d.specs.Positions.{position_of, answer_of, Answered}
 
--- ---- the verdict of a refused and of an answered question
+module _ (test : Pt → List Pt → Rules.Position) (x y : Float) (cs : List Float) where
+  abbrev asked : Asking
+  asked = asking test x y cs
 
-refusing : (n : ℕ) → n ≢ 0 → (a : Position) → verdict (record { number = n; answer = a }) ≡ Refused n
-refusing zero d a = absurd (d refl)
-refusing (suc n) d a = refl
+  checks_refuse : (r : Refusal) → number_of r ≡ first_refusal (point_test_checks x y cs) → Answered asked (Err r)
+  checks_refuse r h =
+      let e : number_of r ≡ asked.number = h ∙ sym (asking-number test x y cs) in
+      record { number = e; answer = sym (asking_none test x y cs (λ z. number_above r (e ∙ z))) }
 
-module _ (test : Pt → List Pt → Position) (x y : Float) (cs : List Float) (n : ℕ) (is : n ≡ first_refusal (point_test_checks x y cs)) where
-  number_is : (asking test x y cs).number ≡ n
-  number_is = asking-number test x y cs ∙ sym is
+  -- the outline is refused
+  pub outline_refused : (r : Refusal) → number_of r ≡ first_refusal (outline_checks 0 most_points cs) → Answered asked (Err r)
+  outline_refused r h = checks_refuse r (front_gives (asked-front x y cs) h (number_above r))
 
-  pub refused : n ≢ 0 → Refused n ≡ verdict (asking test x y cs)
-  refused d =
-      let r = asking_refused test x y cs (λ e. d (sym number_is ∙ e)) in
-      sym (ap verdict r ∙ ap (λ m. verdict (record { number = m; answer = outside })) number_is ∙ refusing n d outside)
+  module _ (passes : 0 ≡ first_refusal (outline_checks 0 most_points cs)) where
+    spot_decides : {n : ℕ} → n ≡ first_refusal (off_grid (x ∷ y ∷ []) gives 4 ∷ []) → n ≡ first_refusal (point_test_checks x y cs)
+    spot_decides h = h ∙ sym (others_decide (asked-front x y cs) (sym passes))
 
-  pub accepted_answer : n ≡ 0 → answered (test (point_of x y) (points_of cs)) ≡ verdict (asking test x y cs)
-  accepted_answer e = sym (ap verdict (asking-answered test x y cs (number_is ∙ e)))
+    -- the asked point is refused
+    pub spot_refused : (r : Refusal) → number_of r ≡ first_refusal (off_grid (x ∷ y ∷ []) gives 4 ∷ []) → Answered asked (Err r)
+    spot_refused r h = checks_refuse r (spot_decides h)
 
--- ---- the outline's rows stand in front of the asked point's
+    -- nothing is refused
+    pub test_tells : 0 ≡ first_refusal (off_grid (x ∷ y ∷ []) gives 4 ∷ []) → (v : Position) → position_of v ≡ test (point_of x y) (points_of cs) → Answered asked (Ok v)
+    test_tells on v h =
+        let a = asking-answered test x y cs (asking-number test x y cs ∙ sym (spot_decides on)) in
+        record { number = sym (ap (λ (r : Asking). r.number) a); answer = h ∙ sym (ap (λ (r : Asking). r.answer) a) }
 
-pub spot_decides :
-    (x y : Float) (cs : List Float) {n m : ℕ} → n ≡ first_refusal (outline_checks 0 most_points cs) → n ≡ 0 → m ≡ first_refusal (off_grid (x ∷ y ∷ []) gives 4 ∷ [])
-    → m ≡ first_refusal (point_test_checks x y cs)
-spot_decides x y cs e none is = is ∙ sym (others_decide (asked-front x y cs) (sym e ∙ none))
+-- ---- the number and the answer are those that the rules give, refused or not
 
--- ---- what is known where none applies
+pub verdict-number : (a : Asking) (r : Result Position Refusal) → Answered a r → refused r ≡ a.number
+verdict-number a r h = h.number
 
-points_on : (x y : Float) → off_grid (x ∷ y ∷ []) ≡ false → (p : Point) → p.x ≡ x → p.y ≡ y → on_grid_pt p ≡ true
-unfolding off_grid on_grid_pt
-points_on x y e p i j =
-    let (a, b) = or-false (not (on_grid x)) (not (on_grid y) || false) e in
-    let (d, f) = or-false (not (on_grid y)) false b in
-    rw (i, j, not-false (on_grid x) a, not-false (on_grid y) d)
+pub verdict-answer : (a : Asking) (r : Result Position Refusal) → Answered a r → answer_of r ≡ a.answer
+verdict-answer a r h = h.answer
 
-pub accepted : (x y : Float) (cs : List Float) (n : ℕ) → n ≡ first_refusal (point_test_checks x y cs) → n ≡ 0 → (p : Point) → p.x ≡ x → p.y ≡ y → (on_grid_pt p ≡ true) × (off_grid cs ≡ false)
-accepted x y cs n e h p i j =
-    let rows = sym e ∙ h in
-    let none = front_none (asked-front x y cs) rows in
-    let asked = (passes (off_grid (x ∷ y ∷ [])) 3 _ (sym (others_decide (asked-front x y cs) none) ∙ rows)).0 in
-    (points_on x y asked p i j, (outlined 0 most_points cs none).on_grid)
+-- ---- two results that a promise allows are equal
 
--- ---- the verdict has the number and the answer that the rules give, refused or not
+position_one : (p q : Position) → position_of p ≡ position_of q → p ≡ q
+position_one p q e = sym (back p) ∙ ap declared e ∙ back q
+  where
+    declared : Rules.Position → Position
+    declared outside = Outside
+    declared inside = Inside
+    declared border = Border
 
-verdict-number_of : (n : ℕ) (a : Position) → number_of (verdict (record { number = n; answer = a })) ≡ n
-verdict-number_of zero outside = refl
-verdict-number_of zero inside = refl
-verdict-number_of zero border = refl
-verdict-number_of (suc n) a = refl
+    back : (p : Position) → declared (position_of p) ≡ p
+    back Outside = refl
+    back Inside = refl
+    back Border = refl
 
-pub verdict-number : (r : Asking) → number_of (verdict r) ≡ r.number
-verdict-number r = verdict-number_of r.number r.answer
+answered_one : (a : Asking) (r s : Result Position Refusal) → Answered a r → Answered a s → r ≡ s
+answered_one a (Ok p) (Ok q) h k = ap Ok (position_one p q (h.answer ∙ sym k.answer))
+answered_one a (Ok p) (Err r) h k = absurd (number_above r (k.number ∙ sym h.number))
+answered_one a (Err r) (Ok p) h k = absurd (number_above r (h.number ∙ sym k.number))
+answered_one a (Err r) (Err s) h k = ap Err (number_one r s (h.number ∙ sym k.number))
 
-verdict-answer_of : (n : ℕ) (a : Position) → (n ≢ 0 → a ≡ outside) → answer_of (verdict (record { number = n; answer = a })) ≡ a
-verdict-answer_of zero outside h = refl
-verdict-answer_of zero inside h = refl
-verdict-answer_of zero border h = refl
-verdict-answer_of (suc n) a h = sym (h (λ e. absurd (omega arith)))
+pub poly2d_unique :
+    (x y : Float) (cs : List Float) (r s : Result Position Refusal) → Answered (point_in_poly2d x y cs) r → Answered (point_in_poly2d x y cs) s → r ≡ s
+poly2d_unique x y cs r s h k = answered_one _ r s h k
 
-pub verdict-answer : (test : Pt → List Pt → Position) (x y : Float) (cs : List Float) → answer_of (verdict (asking test x y cs)) ≡ (asking test x y cs).answer
-verdict-answer test x y cs =
-    let r = asking test x y cs in
-    verdict-answer_of r.number r.answer (λ d. asking_none test x y cs d)
-
--- ---- two verdicts that a promise allows are equal
-
-pub poly2d_unique : (x y : Float) (cs : List Float) (r s : Verdict) → r ≡ verdict (point_in_poly2d x y cs) → s ≡ verdict (point_in_poly2d x y cs) → r ≡ s
-poly2d_unique x y cs r s e f = e ∙ sym f
-
-pub convex_unique : (x y : Float) (cs : List Float) (r s : Verdict) → r ≡ verdict (point_in_convex_poly2d x y cs) → s ≡ verdict (point_in_convex_poly2d x y cs) → r ≡ s
-convex_unique x y cs r s e f = e ∙ sym f
+pub convex_unique :
+    (x y : Float) (cs : List Float) (r s : Result Position Refusal) → Answered (point_in_convex_poly2d x y cs) r → Answered (point_in_convex_poly2d x y cs) s → r ≡ s
+convex_unique x y cs r s h k = answered_one _ r s h k

@@ -1,6 +1,7 @@
 pub mod Dots
 pub mod Ways
-pub mod Crossings
-pub mod Ring
+pub mod Shown
+pub mod Walks
 pub mod Words
+pub mod Spots
 pub mod Asked

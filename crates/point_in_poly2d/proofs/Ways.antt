@@ -10,27 +10,29 @@ use Rattle.rules.specs.Plane.{Pt, minus, turn, left, right}
 use Rattle.rules.specs.Border.{on_edge}
 use Rattle.rules.proofs.Turns.{turn_rotates}
 use Rattle.grid.specs.declared.point.Point.{Point}
+use Rattle.grid.specs.declared.vector.Vector.{Vector}
 use Rattle.grid.specs.Points.{pt_of}
 use Rattle.grid.proofs.Value.{Within, add-within, sub_within, mul-within, eq_is}
+use Rattle.grid.proofs.OnGrid.{is_on}
 use Rattle.grid.proofs.Turn.{pt_within, zero_is, above_zero, below_zero}
-use Rattle.point_in_poly2d.specs.Edges.{Way}
+use Rattle.point_in_poly2d.specs.Ways.{Way}
 use Rattle.point_in_poly2d.proofs.Dots.{dot, on_edge_by_dot}
 
 -- ---- one way
 
-module _ {p : Point} {a : Pt} {d : Point} (u : Way p a d) where
+module _ {p : Point} {a : Pt} {d : Vector} (u : Way p a d) where
   x-within : Within 2048 d.x (a.x -ℤ (pt_of p).x)
-  x-within = rw (u.x_is, ← u.end_is) (sub_within binary32 (pt_within u.end u.end_on).0 (pt_within p u.begin-on).0 (lit≤ tt))
+  x-within = rw (u.x_is, ← u.end_is) (sub_within binary32 (pt_within u.end (is_on u.end)).0 (pt_within p (is_on p)).0 (lit≤ tt))
 
   y-within : Within 2048 d.y (a.y -ℤ (pt_of p).y)
-  y-within = rw (u.y_is, ← u.end_is) (sub_within binary32 (pt_within u.end u.end_on).1 (pt_within p u.begin-on).1 (lit≤ tt))
+  y-within = rw (u.y_is, ← u.end_is) (sub_within binary32 (pt_within u.end (is_on u.end)).1 (pt_within p (is_on p)).1 (lit≤ tt))
 
   pub above_is : lt (fin false 0 (pos 0)) d.y ≡ lt_z (pt_of p).y a.y
   above_is = above_zero y-within.is ∙ lt_z_eq {a = pos 0} {b = a.y -ℤ (pt_of p).y} {c = (pt_of p).y} {d = a.y} sub→<ℤ <ℤ→sub
 
 -- ---- the ways to both ends of an edge
 
-module _ {p : Point} {a b : Pt} {d e : Point} (u : Way p a d) (v : Way p b e) where
+module _ {p : Point} {a b : Pt} {d e : Vector} (u : Way p a d) (v : Way p b e) where
   turn-within : {t : Float} → t ≡ sub binary32 (mul binary32 d.x e.y) (mul binary32 d.y e.x) → Within 8388608 t (turn a b (pt_of p))
   turn-within i =
       rw (i, ← turn_rotates (pt_of p) a b)

@@ -1,2 +1,3 @@
-pub mod Verdicts
+pub mod Ways
 pub mod Edges
+pub mod Positions

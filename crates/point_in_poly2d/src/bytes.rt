@@ -1,23 +1,26 @@
 // The point tests of coordinates that stand as bytes, four each, low byte first: they are read where they stand.
-ghost use Rattle.std.specs.Prelude.{◌≡◌, true, false, ◌+◌, ◌*◌, ◌<◌, length};
+ghost use Rattle.std.specs.Prelude.{◌≡◌, true, false, ◌+◌, ◌*◌, ◌<◌, length, IfOk};
 ghost use Rattle.std.specs.Float.{binary32};
 ghost use Rattle.std.specs.Float.Ieee.{of_bits};
-ghost use Rattle.rules.specs.Plane as Rules;
+ghost use Rattle.rules.specs.Limits.{most_points};
 ghost use Rattle.rules.specs.Grid.{on_grid, points_of};
-ghost use Rattle.rules.specs.Refusals.{off_grid, first_refusal, point_test_checks};
+ghost use Rattle.rules.specs.Plane.{point};
+ghost use Rattle.rules.specs.Refusals.{off_grid, first_refusal, outline_checks};
 ghost use Rattle.rules.specs.Entries.{asking};
-ghost use Rattle.grid.specs.Points.{on_grid_pt, pt_of};
+ghost use Rattle.entries.specs.Refusals.{refused};
+ghost use Rattle.grid.specs.Points.{pt_of};
 ghost use Rattle.words.specs.Bytes.{floats_of};
-ghost use Rattle.point_in_poly2d.specs.Edges.{Way};
-ghost use Rattle.point_in_poly2d.specs.Verdicts.{answered, verdict, test_of};
+ghost use Rattle.point_in_poly2d.specs.Positions.{Answered, test_of};
 
-use crate::{Seen, Verdict, pass, spot_refusal, told};
-use entries::{MOST_POINTS, either};
-use grid::outline::count_refusal;
+use crate::corners::Corners;
+use crate::floats::Floats;
+use crate::{Position, spot, told};
+use entries::{MOST_POINTS, Refusal};
+use grid::outline::check_count;
 use grid::point::Point;
 use words::word;
 
-// Whether the float with these bits is on the grid; no NaN is.
+// Whether the float with these bits is on the grid; no NaN is. It ends where a test fails, which takes less time than the test of `words::float`.
 fn bits_on_grid(bits: u32) -> bool
     ensures { result ≡ on_grid (of_bits binary32 bits) }
 {
@@ -31,31 +34,14 @@ fn bits_on_grid(bits: u32) -> bool
 fn off_grid(bytes: &[u8]) -> bool
     ensures { result ≡ off_grid (floats_of bytes.now) }
 {
-    let n = bytes.len() / 4;
     let mut off = false;
-    let mut i = 0;
-    while i < n {
-        off = either(off, !bits_on_grid(word(bytes, i)));
-        i += 1;
+    for i in 0..bytes.len() / 4 {
+        off |= !bits_on_grid(word(bytes, i));
     }
     off
 }
 
-// The number of the first refusal that applies, and 0 where none does.
-fn refusal(x: f32, y: f32, bytes: &[u8]) -> u32
-    ensures { result ≡ first_refusal (point_test_checks x y (floats_of bytes.now)) }
-{
-    let number = count_refusal(0, MOST_POINTS, bytes.len() / 4);
-    if number != 0 {
-        return number;
-    }
-    if off_grid(bytes) {
-        return 4;
-    }
-    spot_refusal(x, y)
-}
-
-// The float with these bits, which is on the grid.
+// The float with these bits, which is on the grid: no look for a NaN is needed.
 fn coordinate(bits: u32) -> f32
     requires { on_grid (of_bits binary32 bits) ≡ true }
     ensures { result ≡ of_bits binary32 bits }
@@ -65,10 +51,9 @@ fn coordinate(bits: u32) -> f32
 
 // Point number i of coordinates that are x and y in turn, all on the grid.
 fn point_at(bytes: &[u8], i: usize) -> Point
-    requires bytes_value { off_grid (floats_of bytes.now) ≡ false }
-    requires i_in_bounds { i * 8 + 7 < length bytes.now }
-    ensures result_value { on_grid_pt result ≡ true }
-    ensures result_value_2 { pt_of result ≡ Rules.point (points_of (floats_of bytes.now)) i }
+    requires on_grid { off_grid (floats_of bytes.now) ≡ false }
+    requires within { i * 8 + 7 < length bytes.now }
+    ensures { pt_of result ≡ point (points_of (floats_of bytes.now)) i }
 {
     let k = i * 2;
     Point {
@@ -77,50 +62,37 @@ fn point_at(bytes: &[u8], i: usize) -> Point
     }
 }
 
-// The way from p to point number i.
-fn way_to(p: Point, bytes: &[u8], i: usize) -> Point
-    requires p_value { on_grid_pt p ≡ true }
-    requires bytes_value { off_grid (floats_of bytes.now) ≡ false }
-    requires i_in_bounds { i * 8 + 7 < length bytes.now }
-    ensures { Way p (Rules.point (points_of (floats_of bytes.now)) i) result }
-{
-    point_at(bytes, i).minus(p)
+impl<'a> Floats<'a> {
+    // The coordinates of an outline, if it is not refused with 1 to 4.
+    fn new(bytes: &'a [u8]) -> Result<Floats<'a>, Refusal>
+        ensures number { refused result ≡ first_refusal (outline_checks 0 most_points (floats_of bytes.now)) }
+        ensures same { IfOk result (λ floats. floats.bytes.now ≡ bytes.now) }
+    {
+        check_count(0, MOST_POINTS, bytes.len() / 4)?;
+        if off_grid(bytes) {
+            return Err(Refusal::OffGrid);
+        }
+        Ok(Floats { bytes })
+    }
 }
 
-// One of the two tests, edge by edge, from the edge that comes from the last point on.
-fn walk(p: Point, bytes: &[u8], convex: bool) -> Verdict
-    requires p_value { on_grid_pt p ≡ true }
-    requires bytes_value { off_grid (floats_of bytes.now) ≡ false }
-    ensures { result ≡ answered (test_of convex (pt_of p) (points_of (floats_of bytes.now))) }
-{
-    let n = bytes.len() / 8;
-    if n == 0 {
-        return Verdict::Outside;
+impl Corners for Floats<'_> {
+    ghost points = { λ floats. points_of (floats_of floats.bytes.now) };
+
+    fn count(&self) -> usize {
+        self.bytes.len() / 8
     }
-    let mut seen = Seen {
-        odd: false,
-        touched: false,
-        left: false,
-        right: false,
-    };
-    let mut d = way_to(p, bytes, n - 1);
-    let mut i = 0;
-    while i < n {
-        let e = way_to(p, bytes, i);
-        seen = pass(seen, d, e, convex);
-        d = e;
-        i += 1;
+
+    fn at(&self, i: usize) -> Point {
+        point_at(self.bytes, i)
     }
-    told(seen, convex)
 }
 
 // What either test answers of (x, y): the refusal, or what the test says.
-pub fn ask(x: f32, y: f32, bytes: &[u8], convex: bool) -> Verdict
-    ensures { result ≡ verdict (asking (test_of convex) x y (floats_of bytes.now)) }
+pub fn ask(x: f32, y: f32, bytes: &[u8], convex: bool) -> Result<Position, Refusal>
+    ensures { Answered (asking (test_of convex) x y (floats_of bytes.now)) result }
 {
-    let number = refusal(x, y, bytes);
-    if number != 0 {
-        return Verdict::Refused(number);
-    }
-    walk(Point { x, y }, bytes, convex)
+    let floats = Floats::new(bytes)?;
+    let spot = spot(x, y)?;
+    Ok(told(spot, &floats, convex))
 }

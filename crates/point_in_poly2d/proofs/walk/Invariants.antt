@@ -1,11 +1,5 @@
--- `walk` meets its contract. The invariant: what was seen so far, with the edges that are left, says what the test says.
-use Prim.Native.Nat.{◌-◌}
-use Rattle.rules.specs.Grid.{points_of}
-use Rattle.point_in_poly2d.proofs.Ring.{Passing}
+use Rattle.point_in_poly2d.proofs.Walks.{Walking}
 use Rattle.point_in_poly2d.proofs.walk.Given as goal
 
 abbrev pub invariant-loop-i : goal.invariant-loop-i
-invariant-loop-i l = Passing l.convex l.p (points_of l.coords) l.seen l.d l.i
-
-abbrev pub decreases-loop-i : goal.decreases-loop-i
-decreases-loop-i l = l.n - l.i
+invariant-loop-i g l = let t = g.T.Test in Walking t.sums t.shown l.spot (g.C.Corners.points l.corners) l.seen l.d l.i

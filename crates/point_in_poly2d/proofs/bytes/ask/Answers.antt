@@ -1,13 +1,21 @@
--- `ask` meets its promise, for either test.
-use mathlib.Core.Path.{refl, ◌∙◌}
-use Rattle.point_in_poly2d.proofs.Asked.{refused, accepted_answer, accepted}
+use Rattle.std.proofs.lemmas.Result.{err_from_is_err_and}
+use Rattle.words.specs.Bytes.{floats_of}
+use Rattle.point_in_poly2d.specs.Positions.{test_of}
+use Rattle.point_in_poly2d.proofs.Asked.{outline_refused, spot_refused, test_tells}
 use Rattle.point_in_poly2d.proofs.bytes.ask.Goals as goal
 
-pub returns-then-number-ne0 : goal.returns-then-number-ne0
-returns-then-number-ne0 c = refused _ _ _ _ _ c.refusal-number.ensures c.if-number-ne0.true
+pub returns-in_err-floats : goal.returns-in_err-floats
+returns-in_err-floats c =
+    let p = err_from_is_err_and c.from_residual.result c.from_residual.ensures.1 in
+    rw (p.1, p.2) (outline_refused (test_of c.args.convex) c.args.x c.args.y (floats_of c.args.bytes.now) _ c.in_err-floats.ensures.number)
 
-pub walk-requires : goal.walk-requires
-walk-requires c = let told = accepted _ _ _ _ c.refusal-number.ensures c.if-number-ne0.false _ refl refl in record { p_value = told.0; bytes_value = told.1 }
+pub returns-in_err-spot : goal.returns-in_err-spot
+returns-in_err-spot c =
+    let p = err_from_is_err_and c.from_residual-in_err-spot.result c.from_residual-in_err-spot.ensures.1 in
+    rw (p.1, p.2) (spot_refused (test_of c.args.convex) c.args.x c.args.y (floats_of c.args.bytes.now) c.in_ok-floats.ensures.number _ c.in_err-spot.ensures.number)
 
 pub returns : goal.returns
-returns c = c.walk.ensures ∙ accepted_answer _ _ _ _ _ c.refusal-number.ensures c.if-number-ne0.false
+returns c =
+    let at = c.in_ok-spot.ensures.point in
+    test_tells (test_of c.args.convex) c.args.x c.args.y (floats_of c.args.bytes.now) c.in_ok-floats.ensures.number c.in_ok-spot.ensures.number _
+    (rw (at.0, at.1, c.in_ok-floats.ensures.same) at c.told.ensures)
