@@ -12,7 +12,8 @@ use Rattle.rules.specs.Plane.{Pt, turn, left}
 use Rattle.rules.specs.Ear as rules
 use Rattle.rules.proofs.Turns.{coordinates}
 use Rattle.grid.specs.declared.point.Point.{Point}
-use Rattle.grid.specs.Points.{on_grid_pt, pt_of}
+use Rattle.grid.specs.Points.{pt_of}
+use Rattle.grid.proofs.OnGrid.{is_on}
 use Rattle.grid.proofs.Value.{Is, Within, sub_is, lt_is, add-within, sub_within, mul-within}
 use Rattle.grid.proofs.Turn.{pt_within, cross-within, below_zero}
 use Rattle.blocking.specs.ByTurns.{beyond, blocks_by_turns}
@@ -27,14 +28,14 @@ weighted-within i j k l = add-within binary32 (mul-within binary32 i k (lit≤ t
 turn-weighted : (a b q : Pt) → ((a.y -ℤ b.y) *ℤ q.x +ℤ (b.x -ℤ a.x) *ℤ q.y) -ℤ ((a.y -ℤ b.y) *ℤ a.x +ℤ (b.x -ℤ a.x) *ℤ a.y) ≡ turn a b q
 turn-weighted a b q = ring (coordinates (a ∷ b ∷ q ∷ [])) (search reify depth 12) (search reify depth 12) refl
 
-turn-within : (a b q : Point) → on_grid_pt a ≡ true → on_grid_pt b ≡ true → on_grid_pt q ≡ true
+turn-within : (a b q : Point)
     → Within 8388608
     (sub binary32 (weighted (sub binary32 a.y b.y) (sub binary32 b.x a.x) q.x q.y) (weighted (sub binary32 a.y b.y) (sub binary32 b.x a.x) a.x a.y))
     (turn (pt_of a) (pt_of b) (pt_of q))
-turn-within a b q ha hb hq =
-    let A = pt_within a ha in
-    let B = pt_within b hb in
-    let Q = pt_within q hq in
+turn-within a b q =
+    let A = pt_within a (is_on a) in
+    let B = pt_within b (is_on b) in
+    let Q = pt_within q (is_on q) in
     let u = sub_within binary32 A.1 B.1 (lit≤ tt) in
     let v = sub_within binary32 B.0 A.0 (lit≤ tt) in
     rw (turn-weighted (pt_of a) (pt_of b) (pt_of q)) at (sub_within binary32 (weighted-within u v Q.0 Q.1) (weighted-within u v A.0 A.1) (lit≤ tt))
@@ -46,18 +47,18 @@ third a b c q = ring (coordinates (a ∷ b ∷ c ∷ q ∷ [])) (search reify de
 beyond_is : {d e : Float} {D E : ℤ} → Is d D → Is e E → beyond_of d e ≡ beyond D E
 beyond_is {d} {e} {D} {E} i j = rw (below_zero j, lt_is e d E D j i)
 
-module _ (a b c q : Point) (ha : on_grid_pt a ≡ true) (hb : on_grid_pt b ≡ true) (hc : on_grid_pt c ≡ true) (hq : on_grid_pt q ≡ true) where
+module _ (a b c q : Point) where
   third_is : {d e f : Float} → Within 8388608 d (turn (pt_of a) (pt_of b) (pt_of c)) → Within 8388608 e (turn (pt_of a) (pt_of b) (pt_of q)) → Within 8388608 f (turn (pt_of b) (pt_of c) (pt_of q))
       → Is (sub binary32 (sub binary32 d e) f) (turn (pt_of c) (pt_of a) (pt_of q))
   third_is {d} {e} {f} i j k =
       let t = third (pt_of a) (pt_of b) (pt_of c) (pt_of q) in
-      rw t at (sub_is binary32 (sub binary32 d e) f (turn (pt_of a) (pt_of b) (pt_of c) -ℤ turn (pt_of a) (pt_of b) (pt_of q)) (turn (pt_of b) (pt_of c) (pt_of q)) (sub_within binary32 i j (lit≤ tt)).is k.is (rw t (le_trans (cross-within a c q ha hc hq).small (lit≤ tt))))
+      rw t at (sub_is binary32 (sub binary32 d e) f (turn (pt_of a) (pt_of b) (pt_of c) -ℤ turn (pt_of a) (pt_of b) (pt_of q)) (turn (pt_of b) (pt_of c) (pt_of q)) (sub_within binary32 i j (lit≤ tt)).is k.is (rw t (le_trans (cross-within a c q (is_on a) (is_on c) (is_on q)).small (lit≤ tt))))
 
-  pub exact : left (pt_of a) (pt_of b) (pt_of c) ≡ true → blocks_of (sides_of a b c) q.x q.y ≡ rules.blocks (pt_of a) (pt_of b) (pt_of c) (pt_of q)
+  pub exact : left (pt_of a) (pt_of b) (pt_of c) ≡ true → blocks_of (sides_of a b c) q ≡ rules.blocks (pt_of a) (pt_of b) (pt_of c) (pt_of q)
   unfolding blocks_of sides_of blocks_by_turns
   exact l =
-      let D = turn-within a b c ha hb hc in
-      let E = turn-within a b q ha hb hq in
-      let F = turn-within b c q hb hc hq in
+      let D = turn-within a b c in
+      let E = turn-within a b q in
+      let F = turn-within b c q in
       (λ i. not (beyond_is D.is E.is i || (beyond_is D.is F.is i || beyond_is D.is (third_is D E F) i)))
       ∙ sym (blocks_by_turns_lem (pt_of a) (pt_of b) (pt_of c) (pt_of q) l)

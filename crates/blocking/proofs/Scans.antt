@@ -1,58 +1,50 @@
--- A test over consecutive numbers, looked at one after the other without an early end; what it says of each of them.
-use Prim.Native.Nat.{ℕ, zero, suc, ◌+◌, ◌-◌, ◌≤◌, ◌<◌}
+-- A test over some elements of a list: what it says of each of them.
+use Prim.Native.Nat.{ℕ, suc, ◌+◌, ◌≤◌, ◌<◌}
 use native.Mathlib.Omega.{arith}
 use mathlib.Core.Path.{◌≡◌, refl, sym, ap, ◌∙◌}
 use mathlib.Core.Bool.{Bool, true, false, ◌||◌, or-false, or_assoc}
-use native.Mathlib.Decide.{ℕ_discrete}
-use Rattle.algebra.proofs.Equal.{impossible, or-false as both_false}
-use Rattle.blocking.specs.InFloats.{any_from}
+use mathlib.Core.List.{List, [], ◌∷◌}
+use lib.ListN.{length, get_or, take, drop, drop_of_length-le}
+use Rattle.std.proofs.lemmas.List.{length-take-le, length-drop, get_or-take, get_or-drop}
+use Rattle.algebra.specs.Lists.{any}
+use Rattle.algebra.proofs.Equal.{impossible}
+use Rattle.algebra.proofs.Lists.{each_at, none_passes, any_next}
 
--- the numbers of w from `at` that are left from i on
-abbrev pub left : (ℕ → Bool) → ℕ → ℕ → ℕ → Bool
-left f at w i = any_from f (at + i) (w - i)
+module _ {A : Type 0} (f : A → Bool) (l : List A) where
+  -- a loop along a list that says of each element whether it passes
+  pub next : {i : ℕ} (hit : Bool) {a : A} {b whole : Bool} → i < length l → a ≡ get_or l i a → b ≡ f a → whole ≡ (hit || any f (drop i l)) → whole ≡ (hit || b || any f (drop (i + 1) l))
+  next {i} hit {a} {b} h is g e =
+      let rest = any f (drop (i + 1) l) in
+      e ∙ ap (λ (t : Bool). hit || t) (any_next a f l i h ∙ ap (λ (t : Bool). t || rest) (ap f (sym is) ∙ sym g)) ∙ sym (or_assoc hit b rest)
 
-module _ (f : ℕ → Bool) where
-  one : (at w i : ℕ) → i < w → left f at w i ≡ (f (at + i) || left f at w (i + 1))
-  unfolding any_from
-  one at w i h =
-      let e : w - i ≡ suc (w - (i + 1)) = omega arith in
-      let g : at + (i + 1) ≡ suc (at + i) = omega arith in
-      rw (e, g)
+  pub last : (i : ℕ) (hit : Bool) → length l ≤ i → {whole : Bool} → whole ≡ (hit || any f (drop i l)) → hit ≡ whole
+  last i hit h e = sym (e ∙ ap (λ (m : List A). hit || any f m) (drop_of_length-le l h) ∙ or-false hit)
 
-  pub first : (at w : ℕ) → any_from f at w ≡ (false || left f at w 0)
-  first at w =
-      let e : at + 0 ≡ at = omega arith in
-      let g : w - 0 ≡ w = omega arith in
-      rw (e, g)
-
-  pub next :
-      (at w i : ℕ) → i < w → (hit : Bool) {whole hit' b : Bool} → whole ≡ (hit || left f at w i) → b ≡ f (at + i) → hit' ≡ (hit || b) → whole ≡ (hit' || left f at w (i + 1))
-  next at w i h hit e g k =
-      e ∙ ap (λ (t : Bool). hit || t) (one at w i h) ∙ sym (or_assoc hit (f (at + i)) (left f at w (i + 1)))
-      ∙ ap (λ (t : Bool). t || left f at w (i + 1)) (ap (λ (t : Bool). hit || t) (sym g) ∙ sym k)
-
-  pub last : (at w i : ℕ) → w ≤ i → {whole hit : Bool} → whole ≡ (hit || left f at w i) → hit ≡ whole
-  unfolding any_from
-  last at w i h {whole} {hit} e =
-      let z : w - i ≡ 0 = omega arith in
-      sym (e ∙ ap (λ (n : ℕ). hit || any_from f (at + i) n) z ∙ or-false hit)
-
-  -- where none passes, each one fails
-  pub none_of : (i n : ℕ) → any_from f i n ≡ false → (k : ℕ) → i ≤ k → k < i + n → f k ≡ false
-  unfolding any_from
-  none_of i zero e k h l = absurd (omega arith)
-  none_of i (suc n) e k h l = let (a, b) = both_false (f i) (any_from f (suc i) n) e in go (ℕ_discrete i k) a (none_of (suc i) n b k)
+module _ {A : Type 0} (d : A) (f : A → Bool) where
+  -- what passes stands at some place
+  some_at : (l : List A) → any f l ≡ true → (i : ℕ) × (i < length l) × (f (get_or l i d) ≡ true)
+  some_at [] e = impossible (cc)
+  some_at (a ∷ l) e = go (f a) refl (some_at l)
     where
-      go : Dec (i ≡ k) → f i ≡ false → (suc i ≤ k → k < suc i + n → f k ≡ false) → f k ≡ false
-      go (yes q) a r = ap f (sym q) ∙ a
-      go (no q) a r = r (omega arith) (omega arith)
+      go : (t : Bool) → f a ≡ t → (any f l ≡ true → (i : ℕ) × (i < length l) × (f (get_or l i d) ≡ true)) → (i : ℕ) × (i < length (a ∷ l)) × (f (get_or (a ∷ l) i d) ≡ true)
+      go true h r = (0, omega arith, h)
+      go false h r = let (i, m, q) = r (rw h at e) in (suc i, omega arith, q)
 
-  -- where some passes, one of them does
-  pub some_of : (i n : ℕ) → any_from f i n ≡ true → (k : ℕ) × (k < i + n) × (f k ≡ true)
-  unfolding any_from
-  some_of i zero e = impossible (cc)
-  some_of i (suc n) e = go (f i) refl (some_of (suc i) n)
-    where
-      go : (t : Bool) → f i ≡ t → (any_from f (suc i) n ≡ true → (k : ℕ) × (k < suc i + n) × (f k ≡ true)) → (k : ℕ) × (k < i + suc n) × (f k ≡ true)
-      go true h r = (i, omega arith, h)
-      go false h r = let (k, l, q) = r (rw h at e) in (k, omega arith, q)
+  module _ (l : List A) (at n : ℕ) (h : at + n ≤ length l) where
+    -- the n elements from number `at` on
+    abbrev part : List A
+    part = take n (drop at l)
+
+    long : length part ≡ n
+    long = length-take-le n (drop at l) (rw (length-drop at l) (omega arith))
+
+    here : (i : ℕ) → i < n → get_or part i d ≡ get_or l (at + i) d
+    here i m = get_or-take n (drop at l) i d m ∙ get_or-drop at l i d
+
+    -- where none passes, each one fails
+    pub none_of : any f part ≡ false → (i : ℕ) → i < n → f (get_or l (at + i) d) ≡ false
+    none_of e i m = ap f (sym (here i m)) ∙ each_at d part i (rw long m) (none_passes f part e)
+
+    -- where some passes, one of them does
+    pub some_of : any f part ≡ true → (i : ℕ) × (i < n) × (f (get_or l (at + i) d) ≡ true)
+    some_of e = let (i, m, q) = some_at part e in let low : i < n = rw long at m in (i, low, ap f (sym (here i low)) ∙ q)

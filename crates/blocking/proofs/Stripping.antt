@@ -7,28 +7,26 @@ use mathlib.Core.Bool.{true, false}
 use mathlib.Core.List.{List}
 use mathlib.Core.Logic.{◌⊎◌, inl, inr}
 use lib.Bits.{bit_or}
-use lib.Dec.{T, lit<, lit≤}
-use lib.IntN.{ℤ, pos, negsuc, nat_abs, ◌-ℤ◌}
-use lib.Ieee.{Float, fin, binary32, sub, of_int, round, in_unsigned, to_unsigned}
+use lib.Dec.{T, lit≤}
+use lib.IntN.{ℤ, pos, negsuc, nat_abs, neg_ℤ, ◌-ℤ◌, +ℤ_idl}
+use lib.Ieee.{Float, nan, inf, fin, up, down, neg, binary32, sub, of_int, round, in_unsigned, to_unsigned}
 use lib.ListN.{length, get_or, set, length-set}
 use lib.Seq.{get_or-set_same, get_or-set_other}
 use lib.Signed.{◌≤ℤ◌, ◌<ℤ◌, yes_non_neg, pos-nat_abs}
 use Rattle.algebra.specs.Bits.{Has}
 use Rattle.algebra.proofs.Bits.{has_one, has_both, has_left, has_right}
-use Rattle.algebra.proofs.Equal.{and_true_l, and_true_r}
 use Rattle.algebra.proofs.Sizes.{nat_abs_sub}
 use Rattle.algebra.proofs.Order.{lin, at-, lt_or_leℤ}
 use Rattle.rules.specs.Limits.{grid_edge}
-use Rattle.rules.specs.Grid.{on_grid, whole_of}
+use Rattle.rules.specs.Grid.{on_grid, signed, whole_of}
 use Rattle.rules.specs.Plane.{Pt, point}
 use Rattle.rules.proofs.GridSizes.{GridPoint}
-use Rattle.grid.specs.declared.point.Point.{Point}
-use Rattle.grid.specs.Points.{on_grid_pt}
 use Rattle.grid.proofs.Turn.{grid_within}
-use Rattle.grid.proofs.Value.{Within, of_int_is, whole_back}
+use Rattle.grid.proofs.Value.{Within, signed-not, whole_back}
 use Rattle.grid.proofs.Canon.{sub_canon}
 use Rattle.blocking.specs.ByTurns.{Apart, left_of, right_of, under, over}
-use Rattle.blocking.specs.Strips.{from_edge, Side, from_right, from_left, from_above, from_below, along, offset, place, own_place, mask, Marked, MarkedUpTo, Stripped, reached, candidates_of}
+use Rattle.blocking.specs.Strips.{from_edge, Side, from_right, from_left, from_above, from_below, along, of_side, own_strip, no_points, mask, both, Marked, MarkedUpTo, Stripped, reached, candidates_of}
+use Rattle.blocking.specs.declared.strips.Masks.{Masks}
 
 -- ---- the strip of a coordinate
 
@@ -67,14 +65,6 @@ farther a b h k n = go (lt_or_leℤ b a)
 on-within : (v : Float) → on_grid v ≡ true → Within grid_edge v (whole_of v)
 on-within v h = grid_within v (subst T (sym h) tt)
 
-pub on-x : (p : Point) → on_grid_pt p ≡ true → on_grid p.x ≡ true
-unfolding on_grid_pt
-on-x p h = and_true_l (on_grid p.x) (on_grid p.y) h
-
-pub on-y : (p : Point) → on_grid_pt p ≡ true → on_grid p.y ≡ true
-unfolding on_grid_pt
-on-y p h = and_true_r (on_grid p.x) (on_grid p.y) h
-
 literal : fin false 1 (pos 10) ≡ of_int binary32 (pos 1024)
 unfolding of_int round
 literal = refl
@@ -87,144 +77,161 @@ edge_is {x} {z} w =
     = ap (λ (v : Float). sub binary32 v x) literal ∙ sub_canon binary32 (pos 1024) (lit≤ tt) w.is ∙ ap (of_int binary32) (sym (edge_far z w.small)) in
     whole_back _ (nat_abs (pos 1024 -ℤ z)) e (omega (arith, far_low z w.small))
 
-zero_literal : fin false 0 (pos 0) ≡ of_int binary32 (pos 0)
-unfolding of_int round
-zero_literal = refl
+pub strip_is :
+    (v : Float) → on_grid v ≡ true
+    → T (in_unsigned binary32 32 (sub binary32 (fin false 1 (pos 10)) v)) × (to_unsigned 32 (sub binary32 (fin false 1 (pos 10)) v) / 32 ≡ from_edge (whole_of v)) × (from_edge (whole_of v) < 65)
+strip_is v on = let w = on-within v on in ((edge_is w).0, rw (edge_is w).1, strip_low (whole_of v) w.small)
 
-back-within : {x : Float} {z : ℤ} → Within grid_edge x z → Within grid_edge (sub binary32 (fin false 0 (pos 0)) x) (pos 0 -ℤ z)
-back-within {x} {z} w =
-    let s : nat_abs (pos 0 -ℤ z) ≤ 2 ^ 24 = omega (arith, small-back z w.small) in
-    record {
-      is = rw (zero_literal, sub_canon binary32 (pos 0) (lit≤ tt) w.is) (of_int_is binary32 (pos 0 -ℤ z) s);
-      small = small-back z w.small;
-    }
+-- a negated coordinate
+pub neg_on : (v : Float) → on_grid v ≡ true → on_grid (neg v) ≡ true
+unfolding neg
+neg_on nan h = h
+neg_on (inf s) h = h
+neg_on (fin s m e) h = h
 
-abbrev pub back : Float → Float
-back v = sub binary32 (fin false 0 (pos 0)) v
+neg_whole : (v : Float) → whole_of (neg v) ≡ pos 0 -ℤ whole_of v
+unfolding neg
+neg_whole nan = refl
+neg_whole (inf s) = refl
+neg_whole (fin s m e) = signed-not s (m * up e / down e) ∙ sym (+ℤ_idl (neg_ℤ (signed s (m * up e / down e))))
 
--- where its mask stands
-abbrev pub Placed : Float → ℤ → ℕ → Type 0
-Placed x z side =
-    T (in_unsigned binary32 32 (sub binary32 (fin false 1 (pos 10)) x))
-    × (4 * (to_unsigned 32 (sub binary32 (fin false 1 (pos 10)) x) / 32) + side ≡ 4 * from_edge z + side)
-    × (4 * (to_unsigned 32 (sub binary32 (fin false 1 (pos 10)) x) / 32) + side < 260)
-
-placed : (x : Float) (z : ℤ) (side : ℕ) → Within grid_edge x z → side < 4 → Placed x z side
-placed x z side w h = let e = (edge_is w).1 in ((edge_is w).0, rw e, rw e (omega (arith, strip_low z w.small)))
-
-module _ (v : Float) (side : ℕ) (on : on_grid v ≡ true) (low : side < 4) where
-  pub upper_place : Placed v (whole_of v) side
-  upper_place = placed v (whole_of v) side (on-within v on) low
-
-  pub lower_place : Placed (back v) (pos 0 -ℤ whole_of v) side
-  lower_place = placed (back v) (pos 0 -ℤ whole_of v) side (back-within (on-within v on)) low
+pub neg_edge : (v : Float) → from_edge (whole_of (neg v)) ≡ from_edge (pos 0 -ℤ whole_of v)
+neg_edge v = ap from_edge (neg_whole v)
 
 -- ---- the masks as they are filled
 
-abbrev pub Kept : List ℕ → List ℕ → Type 0
-Kept before after = (k h : ℕ) → Has (mask before k) h → Has (mask after k) h
+abbrev pub plus : Side → Masks → ℕ → Masks
+plus from_right m n = record { right = bit_or m.right n; left = m.left; upper = m.upper; lower = m.lower }
+plus from_left m n = record { right = m.right; left = bit_or m.left n; upper = m.upper; lower = m.lower }
+plus from_above m n = record { right = m.right; left = m.left; upper = bit_or m.upper n; lower = m.lower }
+plus from_below m n = record { right = m.right; left = m.left; upper = m.upper; lower = bit_or m.lower n }
 
-module _ (l : List ℕ) (at g : ℕ) (fits : at < length l) where
-  put : List ℕ
-  put = set l at (bit_or (get_or l at 0) (2 ^ g))
+plus_kept : (side at : Side) (m : Masks) (n h : ℕ) → Has (of_side at m) h → Has (of_side at (plus side m n)) h
+plus_kept from_right from_right m n h p = has_left m.right n h p
+plus_kept from_right from_left m n h p = p
+plus_kept from_right from_above m n h p = p
+plus_kept from_right from_below m n h p = p
+plus_kept from_left from_right m n h p = p
+plus_kept from_left from_left m n h p = has_left m.left n h p
+plus_kept from_left from_above m n h p = p
+plus_kept from_left from_below m n h p = p
+plus_kept from_above from_right m n h p = p
+plus_kept from_above from_left m n h p = p
+plus_kept from_above from_above m n h p = has_left m.upper n h p
+plus_kept from_above from_below m n h p = p
+plus_kept from_below from_right m n h p = p
+plus_kept from_below from_left m n h p = p
+plus_kept from_below from_above m n h p = p
+plus_kept from_below from_below m n h p = has_left m.lower n h p
 
-  put_kept : Kept l put
-  unfolding put
-  put_kept k h p = go (ℕ_discrete k at)
-    where
-      go : Dec (k ≡ at) → Has (mask (set l at (bit_or (get_or l at 0) (2 ^ g))) k) h
-      go (yes q) = rw (q, get_or-set_same l at (bit_or (get_or l at 0) (2 ^ g)) 0 fits) (has_left (get_or l at 0) (2 ^ g) h (rw q at p))
-      go (no q) = rw (get_or-set_other l at k (bit_or (get_or l at 0) (2 ^ g)) 0 q) p
-
-  put_there : Has (mask put at) g
-  unfolding put
-  put_there = rw (get_or-set_same l at (bit_or (get_or l at 0) (2 ^ g)) 0 fits) (has_right (get_or l at 0) (2 ^ g) g (has_one g))
+plus_there : (side : Side) (m : Masks) (n h : ℕ) → Has n h → Has (of_side side (plus side m n)) h
+plus_there from_right m n h p = has_right m.right n h p
+plus_there from_left m n h p = has_right m.left n h p
+plus_there from_above m n h p = has_right m.upper n h p
+plus_there from_below m n h p = has_right m.lower n h p
 
 -- one mask after the other, each kept by the next
-pub record Put (before : List ℕ) (at g : ℕ) (after : List ℕ) : Type 0 where
-  pub long : length after ≡ 260
-  pub kept : Kept before after
-  pub there : Has (mask after at) g
+pub record Put (side : Side) (before : List Masks) (s g : ℕ) (after : List Masks) : Type 0 where
+  pub long : length after ≡ 65
+  pub kept : (at : Side) (k h : ℕ) → Has (mask before at k) h → Has (mask after at k) h
+  pub there : Has (mask after side s) g
 
-pub is_put : (l m : List ℕ) (at r g : ℕ) → length l ≡ 260 → (r ≡ at) × (r < 260) → m ≡ set l r (bit_or (get_or l r 0) (2 ^ g)) → Put l at g m
-unfolding put
-is_put l m at r g h (q, low) e =
-    let fits : r < length l = omega arith in
-    rw (e, ← q) (record { long = length-set l r _ ∙ h; kept = put_kept l r g fits; there = put_there l r g fits })
+pub is_put : (side : Side) (l : List Masks) (s r g n : ℕ) → length l ≡ 65 → r ≡ s → r < 65 → n ≡ 2 ^ g → Put side l s g (set l r (plus side (get_or l r no_points) n))
+is_put side l s r g n h q low e = record {
+  long = length-set l r _ ∙ h;
+  kept = λ at k i p. kept at k i p (ℕ_discrete k r);
+  there = rw (← q, here) (plus_there side (get_or l r no_points) n g (rw e (has_one g)));
+}
+  where
+    here : get_or (set l r (plus side (get_or l r no_points) n)) r no_points ≡ plus side (get_or l r no_points) n
+    here = get_or-set_same l r _ no_points (omega arith)
+
+    kept : (at : Side) (k i : ℕ) → Has (mask l at k) i → Dec (k ≡ r) → Has (mask (set l r (plus side (get_or l r no_points) n)) at k) i
+    kept at k i p (yes z) = rw (z, here) (plus_kept side at (get_or l r no_points) n i (rw z at p))
+    kept at k i p (no z) = rw (get_or-set_other l r k (plus side (get_or l r no_points) n) no_points z) p
 
 pub is_marked :
-    (l : List ℕ) (p : Pt) (g : ℕ) (l₁ l₂ l₃ l₄ : List ℕ) → Put l (own_place from_right p) g l₁ → Put l₁ (own_place from_left p) g l₂ → Put l₂ (own_place from_above p) g l₃
-    → Put l₃ (own_place from_below p) g l₄ → Marked l p g l₄
+    (l : List Masks) (p : Pt) (g : ℕ) (l₁ l₂ l₃ l₄ : List Masks) → Put from_right l (own_strip from_right p) g l₁ → Put from_left l₁ (own_strip from_left p) g l₂
+    → Put from_above l₂ (own_strip from_above p) g l₃ → Put from_below l₃ (own_strip from_below p) g l₄ → Marked l p g l₄
 is_marked l p g l₁ l₂ l₃ l₄ a b c d = record {
   long = d.long;
-  kept = λ k h i. d.kept k h (c.kept k h (b.kept k h (a.kept k h i)));
+  kept = λ side k h i. d.kept side k h (c.kept side k h (b.kept side k h (a.kept side k h i)));
   there = there;
 }
   where
-    there : (side : Side) → Has (mask l₄ (own_place side p)) g
-    there from_right = d.kept _ g (c.kept _ g (b.kept _ g a.there))
-    there from_left = d.kept _ g (c.kept _ g b.there)
-    there from_above = d.kept _ g c.there
+    there : (side : Side) → Has (mask l₄ side (own_strip side p)) g
+    there from_right = d.kept from_right _ g (c.kept from_right _ g (b.kept from_right _ g a.there))
+    there from_left = d.kept from_left _ g (c.kept from_left _ g b.there)
+    there from_above = d.kept from_above _ g c.there
     there from_below = d.there
 
 -- one point more
 pub marked_more :
-    (ps : List Pt) (n : ℕ) (l m : List ℕ) (p : Pt) (g : ℕ) → p ≡ point ps n → g ≡ n / 8 → MarkedUpTo ps n l → Marked l p g m → MarkedUpTo ps (n + 1) m
+    (ps : List Pt) (n : ℕ) (l m : List Masks) (p : Pt) (g : ℕ) → p ≡ point ps n → g ≡ n / 8 → MarkedUpTo ps n l → Marked l p g m → MarkedUpTo ps (n + 1) m
 marked_more ps n l m p g e f u w = record { long = w.long; each = λ side k h. go side k h (ℕ_discrete k n) }
   where
-    go : (side : Side) (k : ℕ) → k < n + 1 → Dec (k ≡ n) → Has (mask m (own_place side (point ps k))) (k / 8)
+    go : (side : Side) (k : ℕ) → k < n + 1 → Dec (k ≡ n) → Has (mask m side (own_strip side (point ps k))) (k / 8)
     go side k h (yes q) = rw (q, ← e, ← f) (w.there side)
-    go side k h (no q) = w.kept _ _ (u.each side k (omega arith))
+    go side k h (no q) = w.kept side _ _ (u.each side k (omega arith))
 
 -- ---- each mask put to those behind it
 
-pub record Gathered (before : List ℕ) (n : ℕ) (after : List ℕ) : Type 0 where
-  pub long : length after ≡ 260
-  pub done : (i d g : ℕ) → i + 4 * d < n → Has (mask before i) g → Has (mask after (i + 4 * d)) g
-  pub same : (k : ℕ) → n ≤ k → mask after k ≡ mask before k
+both_left : (side : Side) (m n : Masks) (h : ℕ) → Has (of_side side m) h → Has (of_side side (both m n)) h
+both_left from_right m n h p = has_left m.right n.right h p
+both_left from_left m n h p = has_left m.left n.left h p
+both_left from_above m n h p = has_left m.upper n.upper h p
+both_left from_below m n h p = has_left m.lower n.lower h p
 
-pub gathered_first : (l : List ℕ) → length l ≡ 260 → Gathered l 4 l
-gathered_first l h = record { long = h; done = λ i d g k p. let e : i + 4 * d ≡ i = omega arith in rw e p; same = λ k j. refl }
+both_right : (side : Side) (m n : Masks) (h : ℕ) → Has (of_side side n) h → Has (of_side side (both m n)) h
+both_right from_right m n h p = has_right m.right n.right h p
+both_right from_left m n h p = has_right m.left n.left h p
+both_right from_above m n h p = has_right m.upper n.upper h p
+both_right from_below m n h p = has_right m.lower n.lower h p
 
-pub gathered_more : (l m : List ℕ) (n : ℕ) → 4 ≤ n → n < 260 → Gathered l n m → Gathered l (n + 1) (set m n (bit_or (get_or m n 0) (get_or m (n - 4) 0)))
+pub record Gathered (before : List Masks) (n : ℕ) (after : List Masks) : Type 0 where
+  pub long : length after ≡ 65
+  pub done : (side : Side) (s d g : ℕ) → s + d < n → Has (mask before side s) g → Has (mask after side (s + d)) g
+  pub same : (s : ℕ) → n ≤ s → get_or after s no_points ≡ get_or before s no_points
+
+pub gathered_first : (l : List Masks) → length l ≡ 65 → Gathered l 1 l
+gathered_first l h = record { long = h; done = λ side s d g k p. let e : s + d ≡ s = omega arith in rw e p; same = λ s j. refl }
+
+abbrev with-before : List Masks → ℕ → Masks
+with-before m n = both (get_or m n no_points) (get_or m (n - 1) no_points)
+
+pub gathered_more : (l m : List Masks) (n : ℕ) → 1 ≤ n → n < 65 → Gathered l n m → Gathered l (n + 1) (set m n (with-before m n))
 gathered_more l m n low h w = record {
   long = length-set m n _ ∙ w.long;
-  done = λ i d g k p. go i d g k p (ℕ_discrete (i + 4 * d) n);
-  same = λ k j. get_or-set_other m n k _ 0 (omega arith) ∙ w.same k (omega arith);
+  done = λ side s d g k p. go side s d g k p (ℕ_discrete (s + d) n);
+  same = λ s j. get_or-set_other m n s _ no_points (omega arith) ∙ w.same s (omega arith);
 }
   where
-    here : mask (set m n (bit_or (get_or m n 0) (get_or m (n - 4) 0))) n ≡ bit_or (get_or m n 0) (get_or m (n - 4) 0)
-    here = get_or-set_same m n _ 0 (omega (arith, w.long))
+    here : get_or (set m n (with-before m n)) n no_points ≡ with-before m n
+    here = get_or-set_same m n _ no_points (omega (arith, w.long))
 
-    own : (i d g : ℕ) → i + 4 * d ≡ n → Has (mask l i) g → Has (bit_or (get_or m n 0) (get_or m (n - 4) 0)) g
-    own i zero g q p = let e : i ≡ n = omega arith in has_left (get_or m n 0) (get_or m (n - 4) 0) g (rw (w.same n (omega arith), ← e) p)
-    own i (suc d) g q p =
-        let e : i + 4 * d ≡ n - 4 = omega arith in
-        has_right (get_or m n 0) (get_or m (n - 4) 0) g (rw e at (w.done i d g (omega arith) p))
+    own : (side : Side) (s d g : ℕ) → s + d ≡ n → Has (mask l side s) g → Has (of_side side (with-before m n)) g
+    own side s zero g q p = let e : s ≡ n = omega arith in both_left side (get_or m n no_points) (get_or m (n - 1) no_points) g (rw (w.same n (omega arith), ← e) p)
+    own side s (suc d) g q p =
+        let e : s + d ≡ n - 1 = omega arith in
+        both_right side (get_or m n no_points) (get_or m (n - 1) no_points) g (rw e at (w.done side s d g (omega arith) p))
 
-    go : (i d g : ℕ) → i + 4 * d < n + 1 → Has (mask l i) g → Dec (i + 4 * d ≡ n) → Has (mask (set m n (bit_or (get_or m n 0) (get_or m (n - 4) 0))) (i + 4 * d)) g
-    go i d g k p (yes q) = rw (q, here) (own i d g q p)
-    go i d g k p (no q) = rw (get_or-set_other m n (i + 4 * d) (bit_or (get_or m n 0) (get_or m (n - 4) 0)) 0 q) (w.done i d g (omega arith) p)
+    go : (side : Side) (s d g : ℕ) → s + d < n + 1 → Has (mask l side s) g → Dec (s + d ≡ n) → Has (mask (set m n (with-before m n)) side (s + d)) g
+    go side s d g k p (yes q) = rw (q, here) (own side s d g q p)
+    go side s d g k p (no q) = rw (get_or-set_other m n (s + d) (with-before m n) no_points q) (w.done side s d g (omega arith) p)
 
 pub all-stripped :
-    (ps : List Pt) (l m : List ℕ) → MarkedUpTo ps (length ps) l → ((i d g : ℕ) → i + 4 * d < 260 → Has (mask l i) g → Has (mask m (i + 4 * d)) g) → Stripped ps m
+    (ps : List Pt) (l m : List Masks) → MarkedUpTo ps (length ps) l → ((side : Side) (s d g : ℕ) → s + d < 65 → Has (mask l side s) g → Has (mask m side (s + d)) g) → Stripped ps m
 all-stripped ps l m u f = record { each = behind }
   where
-    offset_low : (side : Side) → offset side < 4
-    offset_low from_right = lit< tt
-    offset_low from_left = lit< tt
-    offset_low from_above = lit< tt
-    offset_low from_below = lit< tt
-
-    behind : (side : Side) (k s : ℕ) → k < length ps → from_edge (along side (point ps k)) ≤ s → s < 65 → Has (mask m (place side s)) (k / 8)
+    behind : (side : Side) (k s : ℕ) → k < length ps → from_edge (along side (point ps k)) ≤ s → s < 65 → Has (mask m side s) (k / 8)
     behind side k s h low t =
         let own = from_edge (along side (point ps k)) in
-        let e : own_place side (point ps k) + 4 * (s - own) ≡ place side s = omega arith in
-        rw e at (f (own_place side (point ps k)) (s - own) (k / 8) (omega (arith, offset_low side)) (u.each side k h))
+        let e : own_strip side (point ps k) + (s - own) ≡ s = omega arith in
+        rw e at (f side (own_strip side (point ps k)) (s - own) (k / 8) (omega arith) (u.each side k h))
 
 -- ---- what a mask leaves out
 
-module _ (ps : List Pt) (strips : List ℕ) (w : Stripped ps strips) (a b c : Pt) (A : GridPoint a) (B : GridPoint b) (C : GridPoint c) (k : ℕ) (h : k < length ps) (P : GridPoint (point ps k)) where
+module _ (ps : List Pt) (strips : List Masks) (w : Stripped ps strips) (a b c : Pt) (A : GridPoint a) (B : GridPoint b) (C : GridPoint c) (k : ℕ) (h : k < length ps) (P : GridPoint (point ps k)) where
   along-small : (side : Side) {q : Pt} → GridPoint q → nat_abs (along side q) ≤ grid_edge
   along-small from_right g = g.x-small
   along-small from_left {q} g = small-back q.x g.x-small
@@ -232,7 +239,7 @@ module _ (ps : List Pt) (strips : List ℕ) (w : Stripped ps strips) (a b c : Pt
   along-small from_below {q} g = small-back q.y g.y-small
 
   -- farther from an edge than a point whose mask leaves it out
-  past : (side : Side) (q : Pt) → GridPoint q → (Has (mask strips (own_place side q)) (k / 8) → ⊥) → along side (point ps k) <ℤ along side q
+  past : (side : Side) (q : Pt) → GridPoint q → (Has (mask strips side (own_strip side q)) (k / 8) → ⊥) → along side (point ps k) <ℤ along side q
   past side q g n =
       farther (along side q) (along side (point ps k)) (along-small side g) (along-small side P)
       (λ l. n (w.each side k (from_edge (along side q)) h l (strip_low (along side q) (along-small side g))))
@@ -240,9 +247,9 @@ module _ (ps : List Pt) (strips : List ℕ) (w : Stripped ps strips) (a b c : Pt
   all_past : (side : Side) → (Has (reached strips side a b c) (k / 8) → ⊥)
       → (along side (point ps k) <ℤ along side a) × (along side (point ps k) <ℤ along side b) × (along side (point ps k) <ℤ along side c)
   all_past side n =
-      let x = mask strips (own_place side a) in
-      let y = mask strips (own_place side b) in
-      let z = mask strips (own_place side c) in (
+      let x = mask strips side (own_strip side a) in
+      let y = mask strips side (own_strip side b) in
+      let z = mask strips side (own_strip side c) in (
         past side a A (λ p. n (has_left (bit_or x y) z (k / 8) (has_left x y (k / 8) p))),
         past side b B (λ p. n (has_left (bit_or x y) z (k / 8) (has_right x y (k / 8) p))),
         past side c C (λ p. n (has_right (bit_or x y) z (k / 8) p)),

@@ -1,10 +1,10 @@
 -- The three turns of a point with an ear's sides, as the code computes them in floats.
-use Rattle.std.specs.Prelude.{ℕ, Bool, false, not, ◌||◌, List, pos, get_or, Float}
-use Rattle.std.specs.Float.{nan, fin, binary32}
+use Rattle.std.specs.Prelude.{ℕ, Bool, false, not, ◌||◌, List, pos, take, drop, Float}
+use Rattle.std.specs.Float.{fin, binary32}
 use Rattle.std.specs.Float.Ieee.{add, sub, mul, lt}
-use Rattle.algebra.specs.Lists.{any, count_from}
+use Rattle.algebra.specs.Lists.{any}
 use Rattle.grid.specs.declared.point.Point.{Point}
-use Rattle.blocking.specs.declared.Sides.{Sides}
+use Rattle.blocking.specs.declared.sides.Sides.{Sides}
 
 -- a x + b y
 abbrev pub weighted : Float → Float → Float → Float → Float
@@ -24,22 +24,14 @@ sides_of p1 p p3 =
 abbrev pub beyond_of : Float → Float → Bool
 beyond_of d e = lt e (fin false 0 (pos 0)) || not (lt e d)
 
--- the point (x, y) blocks
-unfoldable pub blocks_of : Sides → Float → Float → Bool
-blocks_of t x y =
-    let e1 = sub binary32 (weighted t.a1 t.b1 x y) t.c1 in
-    let e2 = sub binary32 (weighted t.a2 t.b2 x y) t.c2 in
+-- the point p blocks
+unfoldable pub blocks_of : Sides → Point → Bool
+blocks_of t p =
+    let e1 = sub binary32 (weighted t.a1 t.b1 p.x p.y) t.c1 in
+    let e2 = sub binary32 (weighted t.a2 t.b2 p.x p.y) t.c2 in
     let e3 = sub binary32 (sub binary32 t.d e1) e2 in
     not (beyond_of t.d e1 || (beyond_of t.d e2 || beyond_of t.d e3))
 
--- point number k of flat coordinates does
-abbrev pub blocks_no : Sides → List Float → List Float → ℕ → Bool
-blocks_no t xs ys k = blocks_of t (get_or xs k nan) (get_or ys k nan)
-
--- one of the n numbers from i on passes the test
-unfoldable pub any_from : (ℕ → Bool) → ℕ → ℕ → Bool
-any_from f i n = any f (count_from i n)
-
 -- one of the n points from number i on does
-abbrev pub blocks_from : Sides → List Float → List Float → ℕ → ℕ → Bool
-blocks_from t xs ys i n = any_from (blocks_no t xs ys) i n
+abbrev pub blocks_from : Sides → List Point → ℕ → ℕ → Bool
+blocks_from t points i n = any (blocks_of t) (take n (drop i points))

@@ -1,146 +1,121 @@
-// The grid in 65 strips each way, of 32 whole numbers each, counted from an edge. A mask stands for some eights of points: bit number k / 8
-// for point number k and its neighbours. For each strip s four masks stand together, from 4 s on: of the points from the right edge up to
-// strip s, of those from the left edge, from the upper and from the lower one.
-ghost use Rattle.std.specs.Prelude.{◌≡◌, true, false, ℕ, ◌+◌, ◌*◌, ◌^◌, ◌<◌, ◌≤◌, pos, ◌-ℤ◌, length, get_or, set};
-ghost use Rattle.std.specs.Int.Bits.{bit_or};
+// The grid in 65 strips each way, of 32 whole numbers each, counted from an edge.
+ghost use Rattle.std.specs.Prelude.{◌≡◌, true, ℕ, ◌+◌, ◌<◌, ◌≤◌, length};
 ghost use Rattle.algebra.specs.Bits.{Has};
 ghost use Rattle.rules.specs.Limits.{most_points};
-ghost use Rattle.rules.specs.Grid.{on_grid, whole_of, points_of};
-ghost use Rattle.rules.specs.Refusals.{off_grid};
-ghost use Rattle.grid.specs.Points.{on_grid_pt, pt_of};
-ghost use Rattle.blocking.specs.Strips.{from_edge, Marked, MarkedUpTo, Stripped, any_of, candidates_of};
+ghost use Rattle.rules.specs.Grid.{on_grid, whole_of};
+ghost use Rattle.grid.specs.Listed.{listed};
+ghost use Rattle.grid.specs.Points.{pt_of};
+ghost use Rattle.blocking.specs.Strips.{Side, from_edge, mask, both, Marked, MarkedUpTo, Stripped, candidates_of};
 
 use grid::point::Point;
+use grid::points::Points;
 
-// Where the mask of a coordinate's strip stands, counted from the right or upper edge of the grid: side is 0 for x and 2 for y.
-fn from_upper(v: f32, side: usize) -> usize
-    requires v_value { on_grid v ≡ true }
-    requires side_bound { side < 4 }
-    ensures { (result ≡ 4 * from_edge (whole_of v) + side) × (result < 260) }
-{
-    4 * ((1024.0 - v) as u32 / 32) as usize + side
+// For one strip the points from each edge up to it. A mask stands for some eights of points: bit number k / 8 for point number k and its
+// neighbours.
+#[derive(Clone, Copy)]
+pub struct Masks {
+    pub right: u64,
+    pub left: u64,
+    pub upper: u64,
+    pub lower: u64,
 }
 
-// And from the left or lower edge: side is 1 for x and 3 for y.
-fn from_lower(v: f32, side: usize) -> usize
-    requires v_value { on_grid v ≡ true }
-    requires side_bound { side < 4 }
-    ensures { (result ≡ 4 * from_edge (pos 0 -ℤ whole_of v) + side) × (result < 260) }
-{
-    4 * ((1024.0 - (0.0 - v)) as u32 / 32) as usize + side
-}
-
-// No mask.
-pub fn empty() -> [u64; 260]
-    ensures { length result ≡ 260 }
-{
-    [0u64; 260]
-}
-
-// Puts eight number g to a mask.
-fn put(strips: &mut [u64; 260], at: usize, g: u64)
-    requires { (at < 260) × (g < 64) }
-    ensures { strips.new ≡ set strips.old at (bit_or (get_or strips.old at 0) (2 ^ g)) }
-{
-    strips[at] = strips[at] | (1u64 << g);
-}
-
-// Puts a point of eight number g to the masks of its own four strips.
-fn mark(strips: &mut [u64; 260], p: Point, g: u64)
-    requires p_value { on_grid_pt p ≡ true }
-    requires g_bound { (g < 64) × (length strips.old ≡ 260) }
-    ensures { Marked strips.old (pt_of p) g strips.new }
-{
-    put(strips, from_upper(p.x, 0), g);
-    put(strips, from_lower(p.x, 1), g);
-    put(strips, from_upper(p.y, 2), g);
-    put(strips, from_lower(p.y, 3), g);
-}
-
-fn mark_all(coords: &[f32], strips: &mut [u64; 260])
-    requires coords_value { off_grid coords.now ≡ false }
-    requires coords_len_bound { length (points_of coords.now) ≤ most_points }
-    requires strips_len { length strips.old ≡ 260 }
-    ensures { MarkedUpTo (points_of coords.now) (length (points_of coords.now)) strips.new }
-{
-    let n = coords.len() / 2;
-    let mut k = 0;
-    while k < n {
-        let p = grid::point_at(coords, k);
-        mark(strips, p, k as u64 / 8);
-        k += 1;
+impl Masks {
+    fn with(self, other: Masks) -> Masks
+        ensures { result ≡ both self other }
+    {
+        Masks {
+            right: self.right | other.right,
+            left: self.left | other.left,
+            upper: self.upper | other.upper,
+            lower: self.lower | other.lower,
+        }
     }
 }
 
-// Puts each mask to those of the strips behind its own.
-fn gather(strips: &mut [u64; 260])
-    requires { length strips.old ≡ 260 }
-    ensures { (i d g : ℕ) → i + 4 * d < 260 → Has (get_or strips.old i 0) g → Has (get_or strips.new (i + 4 * d) 0) g }
+#[derive(Drop)]
+pub struct Strips {
+    pub masks: [Masks; 65],
+}
+
+// The strip of a coordinate from the right or upper edge of the grid; of a negated one, from the left or lower edge.
+fn from_edge(v: f32) -> usize
+    requires { on_grid v ≡ true }
+    ensures strip { result ≡ from_edge (whole_of v) }
+    ensures bound { result < 65 }
 {
-    let mut i = 4;
-    while i < 260 {
-        strips[i] = strips[i] | strips[i - 4];
-        i += 1;
+    ((1024.0 - v) as u32 / 32) as usize
+}
+
+impl Strips {
+    // No masks yet.
+    pub fn new() -> Strips
+        ensures { length result.masks ≡ 65 }
+    {
+        Strips {
+            masks: [Masks {
+                right: 0,
+                left: 0,
+                upper: 0,
+                lower: 0,
+            }; 65],
+        }
     }
-}
 
-// The masks of all points of an outline.
-pub fn fill(coords: &[f32], strips: &mut [u64; 260])
-    requires coords_value { off_grid coords.now ≡ false }
-    requires coords_len_bound { length (points_of coords.now) ≤ most_points }
-    requires strips_len { length strips.old ≡ 260 }
-    ensures { Stripped (points_of coords.now) strips.new }
-{
-    mark_all(coords, strips);
-    gather(strips);
-}
+    // Puts all points of an outline to the masks.
+    pub fn fill(&mut self, points: &Points)
+        requires at_most { length (listed points.now) ≤ most_points }
+        requires long { length self.old.masks ≡ 65 }
+        ensures { Stripped (listed points.now) self.new.masks }
+    {
+        for k in 0..points.count() {
+            self.mark(points.at(k), k as u64 / 8);
+        }
+        self.gather();
+    }
 
-fn any_of(strips: &[u64; 260], a: usize, b: usize, c: usize) -> u64
-    requires { (a < 260) × (b < 260) × (c < 260) }
-    ensures { result ≡ any_of strips.now a b c }
-{
-    strips[a] | strips[b] | strips[c]
-}
+    // Puts a point of eight number g to the masks of its own four strips.
+    #[tactic(auto, using(crate::proofs::Stripping::neg_on))]
+    fn mark(&mut self, p: Point, g: u64)
+        requires eight { g < 64 }
+        requires long { length self.old.masks ≡ 65 }
+        ensures { Marked self.old.masks (pt_of p) g self.new.masks }
+    {
+        let eight = 1u64 << g;
+        self.masks[from_edge(p.x)].right |= eight;
+        self.masks[from_edge(-p.x)].left |= eight;
+        self.masks[from_edge(p.y)].upper |= eight;
+        self.masks[from_edge(-p.y)].lower |= eight;
+    }
 
-// The eights with a point in the strip of one of three coordinates, or nearer to the right or upper edge.
-fn reach_upper(strips: &[u64; 260], side: usize, a: f32, b: f32, c: f32) -> u64
-    requires a_value { (on_grid a ≡ true) × (on_grid b ≡ true) × (on_grid c ≡ true) }
-    requires side_bound { side < 4 }
-    ensures { result ≡ any_of strips.now (4 * from_edge (whole_of a) + side) (4 * from_edge (whole_of b) + side) (4 * from_edge (whole_of c) + side) }
-{
-    any_of(
-        strips,
-        from_upper(a, side),
-        from_upper(b, side),
-        from_upper(c, side),
-    )
-}
+    // Puts each mask to those of the strips behind its own.
+    fn gather(&mut self)
+        requires { length self.old.masks ≡ 65 }
+        ensures { (side : Side) (s d g : ℕ) → s + d < 65 → Has (mask self.old.masks side s) g → Has (mask self.new.masks side (s + d)) g }
+    {
+        for s in 1..65 {
+            self.masks[s] = self.masks[s].with(self.masks[s - 1]);
+        }
+    }
 
-// And to the left or lower one.
-fn reach_lower(strips: &[u64; 260], side: usize, a: f32, b: f32, c: f32) -> u64
-    requires a_value { (on_grid a ≡ true) × (on_grid b ≡ true) × (on_grid c ≡ true) }
-    requires side_bound { side < 4 }
-    ensures { result
-        ≡ any_of strips.now (4 * from_edge (pos 0 -ℤ whole_of a) + side) (4 * from_edge (pos 0 -ℤ whole_of b) + side) (4 * from_edge (pos 0 -ℤ whole_of c) + side) }
-{
-    any_of(
-        strips,
-        from_lower(a, side),
-        from_lower(b, side),
-        from_lower(c, side),
-    )
-}
-
-// The eights that may have a point in the box of an ear's three corners: each point of another eight is beyond one edge of that box.
-pub fn candidates(strips: &[u64; 260], a: Point, b: Point, c: Point) -> u64
-    requires a_value { on_grid_pt a ≡ true }
-    requires b_value { on_grid_pt b ≡ true }
-    requires c_value { on_grid_pt c ≡ true }
-    ensures { result ≡ candidates_of strips.now (pt_of a) (pt_of b) (pt_of c) }
-{
-    let right = reach_upper(strips, 0, a.x, b.x, c.x);
-    let left = reach_lower(strips, 1, a.x, b.x, c.x);
-    let upper = reach_upper(strips, 2, a.y, b.y, c.y);
-    let lower = reach_lower(strips, 3, a.y, b.y, c.y);
-    right & left & upper & lower
+    // The eights that may have a point in the box of an ear's three corners: each point of another eight is beyond one edge of that box.
+    #[tactic(auto, using(crate::proofs::Stripping::neg_on))]
+    pub fn candidates(&self, a: Point, b: Point, c: Point) -> u64
+        ensures { result ≡ candidates_of self.now.masks (pt_of a) (pt_of b) (pt_of c) }
+    {
+        let masks = &self.masks;
+        let right = masks[from_edge(a.x)].right
+            | masks[from_edge(b.x)].right
+            | masks[from_edge(c.x)].right;
+        let left = masks[from_edge(-a.x)].left
+            | masks[from_edge(-b.x)].left
+            | masks[from_edge(-c.x)].left;
+        let upper = masks[from_edge(a.y)].upper
+            | masks[from_edge(b.y)].upper
+            | masks[from_edge(c.y)].upper;
+        let lower = masks[from_edge(-a.y)].lower
+            | masks[from_edge(-b.y)].lower
+            | masks[from_edge(-c.y)].lower;
+        right & left & upper & lower
+    }
 }

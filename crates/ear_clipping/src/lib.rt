@@ -1,199 +1,111 @@
 // The cutter: after the crate's src/transformation/ear_clipping.rs.
 #![tactic(auto)]
 
-ghost use Rattle.std.specs.Prelude.{◌≡◌, true, false, ◌+◌, ◌-◌, ◌*◌, ◌≤◌, ◌<◌, length};
-ghost use Rattle.rules.specs.Grid.{points_of};
+ghost use Rattle.std.specs.Prelude.{◌≡◌, ◌+◌, ◌-◌, ◌*◌, ◌≤◌, ◌<◌, length, IfOk};
 ghost use Rattle.rules.specs.Limits.{most_points, most_indices};
-ghost use Rattle.rules.specs.Refusals.{off_grid, equal_neighbours, first_refusal, before_cutting};
-ghost use Rattle.blocking.specs.Outlined.{Outlined};
-ghost use Rattle.vertices.specs.Vertices.{place};
+ghost use Rattle.rules.specs.Refusals.{equal_neighbours, first_refusal, before_cutting};
+ghost use Rattle.entries.specs.Refusals.{refused, answer_of};
+ghost use Rattle.grid.specs.Listed.{listed};
+ghost use Rattle.vertices.specs.Vertices.{prev_of, next_of};
 ghost use Rattle.ear_clipping.specs.Store.{put3};
 ghost use Rattle.ear_clipping.specs.Promise.{Written, Promise};
 
-use blocking::flat::{filled, flatten};
-use blocking::strips;
-use entries::{Answer, MOST_INDICES, MOST_POINTS, wide_half, zeros};
-use grid::area::area2;
-use grid::outline::outline_refusal;
-use vertices::{clip, lowest, start};
-use winners::{Pick, leaves_for, no_corners, no_ears, pointiest};
+use blocking::outline::Outline;
+use blocking::places::Places;
+use entries::{MOST_INDICES, MOST_POINTS, Refusal};
+use grid::points::Points;
+use vertices::Vertices;
 
 // Whether two ring neighbours are equal.
-fn equal_neighbours(coords: &[f32]) -> bool
-    requires coords_value { off_grid coords.now ≡ false }
-    requires nonzero { 0 < length (points_of coords.now) }
-    ensures { result ≡ equal_neighbours (points_of coords.now) }
+fn equal_neighbours(points: &Points) -> bool
+    requires { 0 < length (listed points.now) }
+    ensures { result ≡ equal_neighbours (listed points.now) }
 {
-    let n = coords.len() / 2;
-    let first = grid::point_at(coords, 0);
+    let first = points.at(0);
     let mut a = first;
-    let mut i = 1;
-    while i < n {
-        let b = grid::point_at(coords, i);
+    for i in 1..points.count() {
+        let b = points.at(i);
         if a.same(b) {
             return true;
         }
         a = b;
-        i += 1;
     }
     a.same(first)
 }
 
-// The number of the first refusal before 7 that applies, and 0 where none does.
-fn refusal(coords: &[f32], room: usize) -> u32
-    ensures { result ≡ first_refusal (before_cutting coords.now room) }
+// The points of an outline that is not refused before it is cut, where there is room for so many indices.
+fn accepted<'a>(coords: &'a [f32], room: usize) -> Result<Points<'a>, Refusal>
+    ensures number { refused result ≡ first_refusal (before_cutting coords.now room) }
+    ensures same { IfOk result (λ points. points.coords.now ≡ coords.now) }
 {
-    let number = outline_refusal(3, MOST_POINTS, coords);
-    if number != 0 {
-        return number;
+    let points = Points::new(3, MOST_POINTS, coords)?;
+    if equal_neighbours(&points) {
+        return Err(Refusal::EqualNeighbours);
     }
-    if equal_neighbours(coords) {
-        return 5;
+    if points.area2() <= 0 {
+        return Err(Refusal::AreaNotAboveZero);
     }
-    if area2(coords) <= 0 {
-        return 13;
+    if room < 3 * (points.count() - 2) {
+        return Err(Refusal::TooLittleRoom);
     }
-    let n = coords.len() / 2;
-    if room < 3 * (n - 2) {
-        return 6;
-    }
-    0
-}
-
-fn links() -> [u16; MOST_POINTS]
-    ensures { length result ≡ most_points }
-{
-    [0u16; MOST_POINTS]
-}
-
-fn flags() -> [bool; MOST_POINTS]
-    ensures { length result ≡ most_points }
-{
-    [false; MOST_POINTS]
-}
-
-fn values() -> [f32; MOST_POINTS]
-    ensures { length result ≡ most_points }
-{
-    [0.0f32; MOST_POINTS]
+    Ok(points)
 }
 
 // Writes corner i, between its neighbours, at place k.
-fn put(
-    triangles: &mut [u32; MOST_INDICES],
-    k: usize,
-    i: usize,
-    prev: &[u16; MOST_POINTS],
-    next: &[u16; MOST_POINTS],
-)
+fn put(triangles: &mut [u32; MOST_INDICES], k: usize, vertices: &Vertices, i: usize)
     requires { (k + 2 < most_indices) × (i < most_points) }
-    ensures { triangles.new ≡ put3 triangles.old k (place prev.now i) i (place next.now i) }
+    ensures { triangles.new ≡ put3 triangles.old k (prev_of vertices.now.ring i) i (next_of vertices.now.ring i) }
 {
-    triangles[k] = wide_half(prev[i]);
+    let vertex = vertices.ring[i];
+    triangles[k] = u32::from(vertex.prev);
     triangles[k + 1] = i as u32;
-    triangles[k + 2] = wide_half(next[i]);
+    triangles[k + 2] = u32::from(vertex.next);
 }
 
-// Cuts an outline of n corners, whose points stand in flat coordinates and in strips. Answers the number of triangles, or 0 where a ring
-// has no ear; then nothing is written.
-fn cut_ring(
-    coords: &[f32],
-    xs: &[f32; MOST_POINTS],
-    ys: &[f32; MOST_POINTS],
-    strips: &[u64; 260],
-    n: usize,
-    indices: &mut [u32],
-) -> u32
-    requires coords_value { off_grid coords.now ≡ false }
-    requires outlined { Outlined (points_of coords.now) xs.now ys.now strips.now }
-    requires le_n { (3 ≤ n) × (n ≤ most_points) × (n ≡ length (points_of coords.now)) }
-    requires n_in_bounds { 3 * (n - 2) ≤ length indices.old }
-    ensures { Written (points_of coords.now) indices.old result indices.new }
+// Cuts an outline, and tells the number of triangles. Where a ring has no ear nothing is written.
+fn cut_outline(outline: &Outline, indices: &mut [u32]) -> Result<u32, Refusal>
+    requires at_least { 3 ≤ length (listed outline.now.points.now) }
+    requires room { 3 * (length (listed outline.now.points.now) - 2) ≤ length indices.old }
+    ensures { Written (listed outline.now.points.now) indices.old result indices.new }
 {
-    let mut triangles = zeros();
-    let mut prev = links();
-    let mut next = links();
-    let mut active = flags();
-    let mut reciprocals = values();
-    let mut val = no_ears();
-    let mut win = no_corners();
-    let m = leaves_for(n);
-    start(
-        coords,
-        xs,
-        ys,
-        strips,
-        n,
-        m,
-        &mut prev,
-        &mut next,
-        &mut active,
-        &mut reciprocals,
-        &mut val,
-        &mut win,
-    );
-    let mut left = n;
-    let mut k = 0;
-    while 3 < left {
-        let best = pointiest(&val, &win);
-        let Pick::At(i) = best else {
-            return 0;
+    let mut vertices = Vertices::new(outline);
+    let mut triangles = [0u32; MOST_INDICES];
+    vertices.start();
+    let n = outline.points.count();
+    for k in 0..n - 3 {
+        let Some(i) = vertices.pointiest() else {
+            return Err(Refusal::NoEar);
         };
-        put(&mut triangles, k, i, &prev, &next);
-        clip(
-            coords,
-            xs,
-            ys,
-            strips,
-            n,
-            m,
-            i,
-            &mut prev,
-            &mut next,
-            &mut active,
-            &mut reciprocals,
-            &mut val,
-            &mut win,
-        );
-        k += 3;
-        left -= 1;
+        put(&mut triangles, 3 * k, &vertices, i);
+        vertices.clip(i);
     }
-    let i = lowest(&active, n);
-    put(&mut triangles, k, i, &prev, &next);
-    words::copy(&triangles[..k + 3], indices);
-    (n - 2) as u32
+    let last = vertices.lowest();
+    put(&mut triangles, 3 * (n - 3), &vertices, last);
+    let written = &triangles[..3 * (n - 2)];
+    indices[..written.len()].copy_from_slice(written);
+    Ok((n - 2) as u32)
 }
 
-// The same of an outline as it is lent.
-fn cut(coords: &[f32], n: usize, indices: &mut [u32]) -> u32
-    requires coords_value { off_grid coords.now ≡ false }
-    requires le_n { (3 ≤ n) × (n ≤ most_points) × (n ≡ length (points_of coords.now)) }
-    requires n_in_bounds { 3 * (n - 2) ≤ length indices.old }
-    ensures { Written (points_of coords.now) indices.old result indices.new }
+// The same by its points.
+fn cut(points: &Points, indices: &mut [u32]) -> Result<u32, Refusal>
+    requires at_least { 3 ≤ length (listed points.now) }
+    requires at_most { length (listed points.now) ≤ most_points }
+    requires room { 3 * (length (listed points.now) - 2) ≤ length indices.old }
+    ensures { Written (listed points.now) indices.old result indices.new }
 {
-    let first = grid::point_at(coords, 0);
-    let mut xs = filled(first.x);
-    let mut ys = filled(first.y);
-    flatten(coords, &mut xs, &mut ys);
-    let mut masks = strips::empty();
-    strips::fill(coords, &mut masks);
-    cut_ring(coords, &xs, &ys, &masks, n, indices)
+    let mut places = Places::new();
+    places.fill(points);
+    let outline = Outline {
+        points,
+        places: &places,
+    };
+    cut_outline(&outline, indices)
 }
 
 // Cuts an outline into triangles, by ears from the pointiest on: three indices each, in the order of the cuts.
-pub fn triangulate_ear_clipping(coords: &[f32], indices: &mut [u32]) -> Answer
-    ensures { Promise coords.now indices.old result indices.new }
+pub fn triangulate_ear_clipping(coords: &[f32], indices: &mut [u32]) -> Result<u32, Refusal>
+    ensures { Promise coords.now indices.old (answer_of result) indices.new }
 {
-    let number = refusal(coords, indices.len());
-    if number != 0 {
-        return Answer { number, count: 0 };
-    }
-    let count = cut(coords, coords.len() / 2, indices);
-    if count == 0 {
-        return Answer {
-            number: 7,
-            count: 0,
-        };
-    }
-    Answer { number: 0, count }
+    let points = accepted(coords, indices.len())?;
+    cut(&points, indices)
 }

@@ -15,9 +15,9 @@ ghost use Rattle.std.specs.Float.Ieee.Positive.{positive};
 pub struct Hyperbola(pub f64, pub f64, pub f64);
 
 pub fn hyperbola_at(i: u64) -> Hyperbola
-    ensures t { T (positive result.0) }
-    ensures t_2 { T (positive (neg result.1)) }
-    ensures t_3 { T (positive result.2) }
+    ensures level { T (positive result.0) }
+    ensures fall { T (positive (neg result.1)) }
+    ensures ahead { T (positive result.2) }
 {
     match i {
         0 => Hyperbola(4503599630235261.0, -6.45415984639e18, 2.45417e12),

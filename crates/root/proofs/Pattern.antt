@@ -37,6 +37,9 @@ pub record Parts (m k j : ℕ) : Type 0 where
   pub scaled : Scaled m j
   pub nearest : Nearest (m * 4 ^ j) k
 
+pub parts : {m n k j : ℕ} → (m ≡ 0 → ⊥) → m ≤ 2 ^ 23 → Scaled m j → n ≡ m * 4 ^ j → Nearest n k → Parts m k j
+parts d h s e n = record { some = omega arith; most = h; scaled = s; nearest = rw e at n }
+
 scaled_up : (x : Float) (s : Bool) (a c d : ℕ) → HasValue x s a c → HasValue x s (a * d) (c * d)
 scaled_up nan s a c d v = v
 scaled_up (inf t) s a c d v = v

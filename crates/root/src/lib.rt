@@ -1,36 +1,18 @@
 // The rounded square root of a whole number, and the pointiness of a corner: what the crate takes from `normalize`.
 #![tactic(auto)]
 
-mod nearest_root;
+mod radicand;
 
-ghost use Rattle.std.specs.Prelude.{◌≡◌, ◌*◌, ◌^◌, ◌<◌, ◌≤◌, true};
+ghost use Rattle.std.specs.Prelude.{◌≡◌, ◌^◌, ◌<◌, ◌≤◌};
 ghost use Rattle.std.specs.Float.{binary32};
 ghost use Rattle.std.specs.Float.Ieee.{mul, of_int};
 ghost use Rattle.rules.specs.Plane.{minus};
-ghost use Rattle.rules.specs.Root.{Scaled, reciprocal as reciprocal_of, root as root_of, pointiness as pointiness_of};
-ghost use Rattle.grid.specs.Points.{on_grid_pt, pt_of};
+ghost use Rattle.rules.specs.Root.{reciprocal as reciprocal_of, root as root_of, pointiness as pointiness_of};
+ghost use Rattle.grid.specs.Points.{pt_of};
 
 use grid::point::Point;
-use nearest_root::{nearest_root, try_guess};
-
-// The j with 2^46 <= m * 4^j < 2^48.
-fn scale(m: u32) -> u32
-    requires m_nonzero { 0 < m }
-    requires m_bound { m ≤ 2 ^ 23 }
-    ensures { Scaled m result }
-{
-    23 - (31 - u32::leading_zeros(m)) / 2
-}
-
-// m * 4^j, shifted in 32 bits first: so the compiler knows that it has 48 bits at most, and a row of the table for each of them.
-fn scaled(m: u32, j: u32) -> u64
-    requires m_nonzero { 0 < m }
-    requires m_bound { m ≤ 2 ^ 23 }
-    requires scaled { Scaled m j }
-    ensures { result ≡ m * 4 ^ j }
-{
-    ((m << (2 * j - 16)) as u64) << 16
-}
+use grid::vector::Vector;
+use radicand::Radicand;
 
 // The root of m: the f32 that is k / 2^j, with the 24 binary digits of k.
 pub fn root(m: u32) -> f32
@@ -40,9 +22,9 @@ pub fn root(m: u32) -> f32
     if m == 0 {
         return 0.0;
     }
-    let j = scale(m);
-    let k = nearest_root(scaled(m, j));
-    f32::from_bits((149 - j) * 8388608 + k as u32)
+    let radicand = Radicand::new(m);
+    let k = radicand.nearest_root();
+    f32::from_bits((149 - radicand.exponent) * 8388608 + k as u32)
 }
 
 // Whether the root of m is guessed, so that its digits are not worked out.
@@ -50,14 +32,11 @@ pub fn is_guessed(m: u32) -> bool
     requires m_nonzero { 0 < m }
     requires m_bound { m ≤ 2 ^ 23 }
 {
-    let t = try_guess(scaled(m, scale(m)));
-    t.passed
+    Radicand::new(m).try_guess().is_some()
 }
 
 // 1 / len of the vector from p to q.
 pub fn reciprocal(q: Point, p: Point) -> f32
-    requires q_value { on_grid_pt q ≡ true }
-    requires p_value { on_grid_pt p ≡ true }
     ensures { result ≡ reciprocal_of (minus (pt_of q) (pt_of p)) }
 {
     let d = q.side_from(p);
@@ -66,23 +45,18 @@ pub fn reciprocal(q: Point, p: Point) -> f32
 }
 
 // The vector from p to q by r, the reciprocal of its length.
-fn direction(q: Point, p: Point, r: f32) -> Point
-    requires q_value { on_grid_pt q ≡ true }
-    requires p_value { on_grid_pt p ≡ true }
-    requires r_value { r ≡ reciprocal_of (minus (pt_of q) (pt_of p)) }
-    ensures x_value { result.x ≡ mul binary32 (of_int binary32 (minus (pt_of q) (pt_of p)).x) (reciprocal_of (minus (pt_of q) (pt_of p))) }
-    ensures y_value { result.y ≡ mul binary32 (of_int binary32 (minus (pt_of q) (pt_of p)).y) (reciprocal_of (minus (pt_of q) (pt_of p))) }
+fn direction(q: Point, p: Point, r: f32) -> Vector
+    requires { r ≡ reciprocal_of (minus (pt_of q) (pt_of p)) }
+    ensures x { result.x ≡ mul binary32 (of_int binary32 (minus (pt_of q) (pt_of p)).x) (reciprocal_of (minus (pt_of q) (pt_of p))) }
+    ensures y { result.y ≡ mul binary32 (of_int binary32 (minus (pt_of q) (pt_of p)).y) (reciprocal_of (minus (pt_of q) (pt_of p))) }
 {
     q.side_from(p).scaled(r)
 }
 
 // The pointiness of the corner p between q, the one before it, and s, the one after it, from the reciprocals of the lengths to both.
 pub fn pointiness(q: Point, p: Point, s: Point, before: f32, after: f32) -> f32
-    requires q_value { on_grid_pt q ≡ true }
-    requires p_value { on_grid_pt p ≡ true }
-    requires s_value { on_grid_pt s ≡ true }
-    requires before_value { before ≡ reciprocal_of (minus (pt_of q) (pt_of p)) }
-    requires after_value { after ≡ reciprocal_of (minus (pt_of s) (pt_of p)) }
+    requires before_is { before ≡ reciprocal_of (minus (pt_of q) (pt_of p)) }
+    requires after_is { after ≡ reciprocal_of (minus (pt_of s) (pt_of p)) }
     ensures { result ≡ pointiness_of (minus (pt_of q) (pt_of p)) (minus (pt_of s) (pt_of p)) }
 {
     let v = direction(q, p, before);

@@ -4,6 +4,7 @@ use mathlib.Core.Path.{◌≡◌, refl, sym, ◌∙◌, ap}
 use mathlib.Core.Bool.{Bool, true, false, cond, not, ◌&&◌}
 use mathlib.Core.List.{List}
 use lib.Ieee.{Float}
+use Rattle.std.specs.Prelude.{None, Some}
 use Rattle.algebra.specs.Lists.{any}
 use Rattle.algebra.specs.Rings.{Corner}
 use Rattle.rules.specs.Plane.{Pt, minus, turn, left, point, turns_left}
@@ -13,7 +14,6 @@ use Rattle.grid.specs.declared.point_in_triangle.Orientation.{Orientation}
 use Rattle.grid.specs.Points.{orientation, is_ccw}
 use Rattle.grid.proofs.Turn.{ccw_left}
 use Rattle.winners.specs.Keys.{from_ear}
-use Rattle.winners.specs.declared.Ear.TheVariants.{No, Pointed}
 use Rattle.vertices.specs.Ears.{ear_of}
 
 -- the three points turn left
@@ -41,16 +41,16 @@ module _ (ps : List Pt) (t : Corner ℕ) where
       flags : {x y : Bool} → x ≡ l → y ≡ s → (x && not y) ≡ (l && not s)
       flags p q = cc
 
-  pub no-left : turns_left ps t.before t.at t.after ≡ false → No ≡ ear_of ps t
+  pub no-left : turns_left ps t.before t.at t.after ≡ false → None ≡ ear_of ps t
   no-left e = sym (ear_is false (rules.blocked ps t) e refl)
 
-  pub is_blocked : turns_left ps t.before t.at t.after ≡ true → rules.blocked ps t ≡ true → No ≡ ear_of ps t
+  pub is_blocked : turns_left ps t.before t.at t.after ≡ true → rules.blocked ps t ≡ true → None ≡ ear_of ps t
   is_blocked e f = sym (ear_is true true e f)
 
   pub is_pointed :
       turns_left ps t.before t.at t.after ≡ true → rules.blocked ps t ≡ false → (q p s : Pt) → q ≡ point ps t.before → p ≡ point ps t.at → s ≡ point ps t.after
-      → {v : Float} → v ≡ pointiness (minus q p) (minus s p) → Pointed v ≡ ear_of ps t
-  is_pointed e f q p s eq ep es i = ap Pointed (i ∙ rw (eq, ep, es) opened) ∙ sym (ear_is true false e f)
+      → {v : Float} → v ≡ pointiness (minus q p) (minus s p) → Some v ≡ ear_of ps t
+  is_pointed e f q p s eq ep es i = ap Some (i ∙ rw (eq, ep, es) opened) ∙ sym (ear_is true false e f)
     where
       opened : pointiness (minus (point ps t.before) (point ps t.at)) (minus (point ps t.after) (point ps t.at)) ≡ rules.pointiness_at ps t
       opened = unfold rules.pointiness_at in refl

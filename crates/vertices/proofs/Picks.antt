@@ -5,8 +5,8 @@ use mathlib.Core.Path.{◌≡◌, refl, ap, ◌∙◌}
 use mathlib.Core.Bool.{Bool, true, false, cond}
 use mathlib.Core.Logic.{◌⊎◌, inl, inr}
 use mathlib.Core.List.{List, [], ◌∷◌}
-use lib.Ieee.{Float, nan}
-use lib.ListN.{get_or}
+use lib.Ieee.{Float}
+use Rattle.std.specs.Prelude.{Option, None, Some}
 use Rattle.algebra.specs.Lists.{Each, end, ◌&◌}
 use Rattle.algebra.specs.Rings.{Corner, corners}
 use Rattle.rules.specs.Plane.{Pt}
@@ -14,12 +14,12 @@ use Rattle.rules.specs.Ear as rules
 use Rattle.rules.specs.Cut.{Choice, nothing, best, better, choose}
 use Rattle.winners.specs.Winners as W
 use Rattle.winners.specs.Winners.{choice_of, Kept, kept, left_out}
-use Rattle.winners.specs.Keys.{Proper, ear_in, decode, entry_in, winner_in, pick_of, root_of}
-use Rattle.winners.specs.declared.Pick.{Pick}
-use Rattle.winners.specs.declared.Pick.TheVariants.{Nothing, At}
-use Rattle.winners.proofs.Roots.{root_of_arrays}
+use Rattle.winners.specs.Keys.{Proper, ear_entry, ear_in, decode, node, winner_in, corner_if, root_of}
+use Rattle.winners.specs.declared.Winners.{Winners}
+use Rattle.winners.proofs.Roots.{root_of_tree}
 use Rattle.vertices.specs.Ears.{ear_of}
-use Rattle.vertices.specs.Vertices.{Vertices, prev_of, next_of, active_of, corner_at, those, ring_in, ear_entry, Stands}
+use Rattle.vertices.specs.declared.Vertex.{Vertex}
+use Rattle.vertices.specs.Vertices.{prev_of, next_of, active_of, corner_at, those, ring_in, Ringed, Eared}
 use Rattle.vertices.proofs.Links.{corners-map}
 
 module _ (t : ℕ → Choice ℕ) (o : ℕ → Bool) (n top : ℕ) (off : (i : ℕ) → i < top → (n ≤ i) ⊎ (o i ≡ false) → t i ≡ nothing) where
@@ -48,34 +48,33 @@ module _ (P : ℕ → Type 0) (o : ℕ → Bool) (n : ℕ) (is : (i : ℕ) → i
       go true q r = is k (omega arith) q & r
       go false q r = r
 
--- how a pick and a choice go together: nothing of either, or the corner by its number
-pub data Agree (corner : ℕ → Corner ℕ) : Pick → Choice (Corner ℕ) → Type 0 where
-  neither : Agree corner Nothing nothing
-  same : (i : ℕ) (f : Float) → Agree corner (At i) (best (corner i) f)
+-- how a corner that is picked and a choice go together: nothing of either, or the corner by its number
+pub data Agree (corner : ℕ → Corner ℕ) : Option ℕ → Choice (Corner ℕ) → Type 0 where
+  neither : Agree corner None nothing
+  same : (i : ℕ) (f : Float) → Agree corner (Some i) (best (corner i) f)
 
-pub agree_nothing : {corner : ℕ → Corner ℕ} {c : Choice (Corner ℕ)} → Agree corner Nothing c → c ≡ nothing
+pub agree_nothing : {corner : ℕ → Corner ℕ} {c : Choice (Corner ℕ)} → Agree corner None c → c ≡ nothing
 agree_nothing neither = refl
 
-pub agree_at : {corner : ℕ → Corner ℕ} {i : ℕ} {c : Choice (Corner ℕ)} → Agree corner (At i) c → (f : Float) × (c ≡ best (corner i) f)
-agree_at (same i f) = (f, refl)
+pub agree_some : {corner : ℕ → Corner ℕ} {i : ℕ} {c : Choice (Corner ℕ)} → Agree corner (Some i) c → (f : Float) × (c ≡ best (corner i) f)
+agree_some (same i f) = (f, refl)
 
-module _ (ps : List Pt) (proper : (c : Corner ℕ) → Proper (ear_of ps c)) (n m : ℕ) (s : Vertices) (h : Stands ps n m s) where
-  root_chosen : choose ps nothing (corners (ring_in n s)) ≡ choice_of (corner_at s) (winner_in s.val s.win 1)
+module _ (ps : List Pt) (proper : (c : Corner ℕ) → Proper (ear_of ps c)) (n : ℕ) (r : List Vertex) (w : Winners) (h : Ringed ps n r) (e : Eared ps n r w) where
+  root_chosen : choose ps nothing (corners (ring_in n r)) ≡ choice_of (corner_at r) (winner_in w 1)
   unfolding ear_of
   root_chosen =
-      let e = h.eared in
-      ap (choose ps nothing) (corners-map (prev_of s) (next_of s) (ring_in n s) h.ringed.links)
-      ∙ root_of_arrays ps proper (corner_at s) s.val s.win m e.power.exponent e.power.is e.tree (ring_in n s)
-      (ring_kept (λ i. winner_in s.val s.win (m + i)) (active_of s) n m e.nobody 0 n m (omega arith) (omega arith) e.room)
-      (each_of_ring (λ i. entry_in s.val s.win (m + i) ≡ ear_entry i (ear_of ps (corner_at s i))) (active_of s) n e.ears 0 n (omega arith))
+      ap (choose ps nothing) (corners-map (prev_of r) (next_of r) (ring_in n r) h.links)
+      ∙ root_of_tree ps proper (corner_at r) w e.power.exponent e.power.is e.tree (ring_in n r)
+      (ring_kept (λ i. winner_in w (w.leaves + i)) (active_of r) n w.leaves e.nobody 0 n w.leaves (omega arith) (omega arith) e.room)
+      (each_of_ring (λ i. node w (w.leaves + i) ≡ ear_entry i (ear_of ps (corner_at r i))) (active_of r) n e.ears 0 n (omega arith))
 
-  agree : (val : List Float) (win : List ℕ) → Agree (corner_at s) (root_of val win) (choice_of (corner_at s) (winner_in val win 1))
+  agree : Agree (corner_at r) (root_of w) (choice_of (corner_at r) (winner_in w 1))
   unfolding root_of decode better
-  agree val win = go (ear_in (get_or val 1 nan))
+  agree = go (ear_in (node w 1).key)
     where
-      go : (e : rules.Ear) → Agree (corner_at s) (pick_of e (get_or win 1 0)) (choice_of (corner_at s) (better nothing (get_or win 1 0) e))
+      go : (e : rules.Ear) → Agree (corner_at r) (corner_if e (node w 1).corner) (choice_of (corner_at r) (better nothing (node w 1).corner e))
       go rules.none = neither
-      go (rules.pointed f) = same (get_or win 1 0) f
+      go (rules.pointed f) = same (node w 1).corner f
 
-  pub chosen : (b : Pick) → b ≡ root_of s.val s.win → Agree (corner_at s) b (choose ps nothing (corners (ring_in n s)))
-  chosen b e = rw (e, root_chosen) (agree s.val s.win)
+  pub chosen : (b : Option ℕ) → b ≡ root_of w → Agree (corner_at r) b (choose ps nothing (corners (ring_in n r)))
+  chosen b e = rw (e, root_chosen) agree

@@ -1,29 +1,35 @@
--- How the first state comes about: links, lengths, ears, tree.
+-- How the first vertices come about: the ring, the ears, the tree.
 use Prim.Native.Nat.{ℕ, zero, suc, ◌+◌, ◌-◌, ◌<◌, ◌≤◌}
 use native.Mathlib.Omega.{arith}
 use native.Mathlib.Decide.{ℕ_discrete}
 use mathlib.Core.Path.{◌≡◌, refl, ap, sym, ◌∙◌, subst}
 use mathlib.Core.Logic.{◌⊎◌, inl, inr}
-use mathlib.Core.Bool.{Bool, true, false}
+use mathlib.Core.Bool.{Bool, true, false, cond}
 use mathlib.Core.List.{List}
-use borrow.Author.Tests.{ltb-true, ltb-false}
+use borrow.Author.Tests.{ltb-true, ltb-false, lt-ltb, le-ltb, eq-eqb, ne_eqb}
 use lib.Dec.{ltb}
-use lib.Ieee.{Float, nan}
-use lib.ListN.{length, get_or, set, length-set}
+use lib.Ieee.{Float}
+use lib.ListN.{length, set, length-set}
 use lib.Seq.{get_or-set_same, get_or-set_other}
+use Rattle.std.specs.Prelude.{Option, None}
 use Rattle.algebra.specs.Lists.{count_from}
 use Rattle.algebra.specs.Rings.{Corner}
 use Rattle.algebra.proofs.Equal.{impossible}
 use Rattle.rules.specs.Plane.{Pt}
 use Rattle.rules.specs.Cut.{nothing}
-use Rattle.winners.specs.Keys.{key_of, Proper, Fair, none, Nobody, decode, entry_in, winner_in, Power, Leaves, Tree, LeafSame}
-use Rattle.winners.specs.declared.Ear.{Ear}
+use Rattle.winners.specs.Keys.{Proper, no as no_ear, Fair, ear_entry, node, with_node, decode, winner_in, Power, Leaves, Tree, LeafSame}
 use Rattle.winners.specs.declared.Entry.{Entry}
+use Rattle.winners.specs.declared.Winners.{Winners}
 use Rattle.winners.proofs.Nodes.{proper_fair, set_same, set_other}
 use Rattle.winners.proofs.Roots.{decode-lowest}
+use Rattle.winners.proofs.Sizes.{power_small}
 use Rattle.vertices.specs.Ears.{ear_of}
-use Rattle.vertices.specs.Vertices.{state, place, on, those, linked_corner, edge_of, ear_entry, Follows, Way, Links, ring_in, Ringed, Stands, AtCorner, Linked, Measured, Updated}
-use Rattle.vertices.proofs.Corners.{at_corner_lem}
+use Rattle.grid.specs.Listed.{listed}
+use Rattle.blocking.specs.declared.outline.Outline.{Outline}
+use Rattle.vertices.specs.declared.Vertex.{Vertex}
+use Rattle.vertices.specs.declared.Vertices.{Vertices}
+use Rattle.vertices.specs.Vertices.{points_in, count_in, vertex, prev_of, next_of, active_of, those, linked_corner, corner_at, Follows, Way, Links, ring_in, Ringed, Eared, Stands, AtCorner, before_first, after_first, first_vertex, Begun, first_ear, Updated}
+use Rattle.vertices.proofs.Corners.{proper, at_corner_lem}
 
 lt_or_le : (j n : ℕ) → (j < n) ⊎ (n ≤ j)
 lt_or_le j n = go (ltb j n) refl
@@ -32,161 +38,222 @@ lt_or_le j n = go (ltb j n) refl
     go true e = inl (ltb-true j n e)
     go false e = inr (ltb-false j n e)
 
--- the length of one edge more is kept
-pub measured_more : (ps : List Pt) (k : ℕ) (q : List ℕ) (r r' : List Float) (j : ℕ) → k < 512 → j ≡ place q k → r' ≡ set r k (edge_of ps k j) → Measured ps k q r → Measured ps (k + 1) q r'
-measured_more ps k q r r' j small e f h = rw (f, e) (record { long = length-set r k _ ∙ h.long; lengths = λ i l. go i l (ℕ_discrete i k) })
+-- ---- the ring
+
+pub none_begun : (ps : List Pt) (r : List Vertex) → length r ≡ 512 → Begun ps 0 r
+none_begun ps r h = record { long = h; each = λ j l. absurd (omega arith) }
+
+-- one more
+pub begun_more : (ps : List Pt) (k : ℕ) (r : List Vertex) → k < 512 → Begun ps k r → Begun ps (k + 1) (set r k (first_vertex ps k))
+begun_more ps k r small h = record { long = length-set r k _ ∙ h.long; each = λ j l. go j l (ℕ_discrete j k) }
   where
-    go : (i : ℕ) → i < k + 1 → Dec (i ≡ k) → get_or (set r k (edge_of ps k (place q k))) i nan ≡ edge_of ps i (place q i)
-    go i l (yes p) = rw p (get_or-set_same r k (edge_of ps k (place q k)) nan (omega (arith, h.long)))
-    go i l (no p) = get_or-set_other r k i (edge_of ps k (place q k)) nan p ∙ h.lengths i (omega arith)
+    go : (j : ℕ) → j < k + 1 → Dec (j ≡ k) → vertex (set r k (first_vertex ps k)) j ≡ first_vertex ps j
+    go j l (yes q) = rw q (get_or-set_same r k (first_vertex ps k) _ (omega (arith, h.long)))
+    go j l (no q) = get_or-set_other r k j (first_vertex ps k) _ q ∙ h.each j (omega arith)
 
--- no ear is worked out yet
-pub none_updated : (ps : List Pt) (m : ℕ) (p q : List ℕ) (v : List Float) (w : List ℕ) → m ≤ 512 → Nobody v → length w ≡ 1024 → Updated ps 0 m p q v w
-none_updated ps m p q v w small h l = record { long-val = h.long; long-win = l; ears = λ j k. absurd (omega arith); rest = λ j k i. h.each (m + j) (omega arith) }
+-- the corners before and after
+before_zero : (n : ℕ) → before_first n 0 ≡ n - 1
+before_zero n = refl
 
--- one more ear
-pub updated_more :
-    (ps : List Pt) (k m : ℕ) (p q : List ℕ) (v v' : List Float) (w w' : List ℕ) (e : Ear) → k < m → m ≤ 512 → e ≡ ear_of ps (linked_corner (place p) (place q) k)
-    → v' ≡ set v (m + k) (key_of e) → w' ≡ set w (m + k) k → Updated ps k m p q v w → Updated ps (k + 1) m p q v' w'
-updated_more ps k m p q v v' w w' e low small is f g h = rw (f, g) (record {
-  long-val = length-set v (m + k) _ ∙ h.long-val;
-  long-win = length-set w (m + k) _ ∙ h.long-win;
-  ears = λ j l. ears j l (ℕ_discrete j k);
-  rest = λ j l i. get_or-set_other v (m + k) (m + j) (key_of e) nan (λ r. omega arith) ∙ h.rest j l (omega arith);
-})
+before_suc : (n j : ℕ) → before_first n (suc j) ≡ j
+before_suc n j = rw (ne_eqb (suc j) 0 (λ e. omega arith)) (omega arith)
+
+after_suc : (n j : ℕ) → suc j < n → after_first n j ≡ suc j
+after_suc n j l = rw (ne_eqb (j + 1) n (λ e. omega arith)) (omega arith)
+
+after_last : (n j : ℕ) → j + 1 ≡ n → after_first n j ≡ 0
+after_last n j e = rw (eq-eqb (j + 1) n e)
+
+pub before_low : (n j : ℕ) → j < n → before_first n j < n
+before_low n zero l = rw before_zero (omega arith)
+before_low n (suc j) l = rw (before_suc n j) (omega arith)
+
+pub after_low : (n j : ℕ) → j < n → after_first n j < n
+after_low n j l = go (ℕ_discrete (j + 1) n)
   where
-    ears : (j : ℕ) → j < k + 1 → Dec (j ≡ k) → entry_in (set v (m + k) (key_of e)) (set w (m + k) k) (m + j) ≡ ear_entry j (ear_of ps (linked_corner (place p) (place q) j))
-    ears j l (yes r) =
-        ap (λ (i : ℕ). entry_in (set v (m + k) (key_of e)) (set w (m + k) k) (m + i)) r
-        ∙ set_same v w (m + k) (ear_entry k e) (omega (arith, h.long-val)) (omega (arith, h.long-win))
-        ∙ ap (ear_entry k) is ∙ ap (λ (i : ℕ). ear_entry i (ear_of ps (linked_corner (place p) (place q) i))) (sym r)
-    ears j l (no r) = set_other v w (m + k) (ear_entry k e) (m + j) (λ x. r (omega arith)) ∙ h.ears j (omega arith)
-
--- the leaves that the tree is built on
-pub updated_leaves :
-    (ps : List Pt) (proper : (c : Corner ℕ) → Proper (ear_of ps c)) (n m : ℕ) (p q : List ℕ) (v : List Float) (w : List ℕ) → 1 ≤ m → m ≤ 512 → Updated ps n m p q v w → Leaves v w m
-updated_leaves ps proper n m p q v w least small h = record { long-val = h.long-val; long-win = h.long-win; least = least; small = small; numbers = λ k l i. number k l i }
-  where
-    at : (j : ℕ) → j < m → (j < n) ⊎ (n ≤ j) → Fair (get_or v (m + j) nan)
-    at j l (inl i) = proper_fair (proper (linked_corner (place p) (place q) j)) (ap (λ (e : Entry). e.key) (h.ears j i))
-    at j l (inr i) = subst Fair (sym (h.rest j l i)) none
-
-    number : (k : ℕ) → m ≤ k → k < m + m → Fair (get_or v k nan)
-    number k l i = let e : k ≡ m + (k - m) = omega arith in rw e (at (k - m) (omega arith) (lt_or_le (k - m) n))
-
--- one corner more is linked
-module _ (n i : ℕ) (p q : List ℕ) (a : List Bool) (h : Linked n i p q a) (one : 1 ≤ i) (low : i < n) (small : n ≤ 512) where
-  one_more : Linked n (i + 1) (set p i (i - 1)) (set q (i - 1) i) (set a i true)
-  one_more = record {
-    prev_size = simp length-set h.prev_size;
-    next_size = simp length-set h.next_size;
-    active_size = simp length-set h.active_size;
-    all-active = λ j l. active j l (ℕ_discrete j i);
-    edges = λ j l. edge j l (ℕ_discrete (suc j) i);
-    close = (
-      get_or-set_other q (i - 1) (n - 1) i 0 (omega arith) ∙ h.close.0,
-      get_or-set_other p i 0 (i - 1) 0 (omega arith) ∙ h.close.1,
-    );
-  }
-    where
-      active : (j : ℕ) → j < i + 1 → Dec (j ≡ i) → on (set a i true) j ≡ true
-      active j l (yes r) = rw r (get_or-set_same a i true false (omega (arith, h.active_size)))
-      active j l (no r) = get_or-set_other a i j true false r ∙ h.all-active j (omega arith)
-
-      edge : (j : ℕ) → suc j < i + 1 → Dec (suc j ≡ i) → Follows (place (set p i (i - 1))) (place (set q (i - 1) i)) j (suc j)
-      edge j l (yes r) =
-          let e : j ≡ i - 1 = omega arith in (
-            ap (λ (x : ℕ). get_or (set q (i - 1) i) x 0) e ∙ get_or-set_same q (i - 1) i 0 (omega (arith, h.next_size)) ∙ sym r,
-            ap (λ (x : ℕ). get_or (set p i (i - 1)) x 0) r ∙ get_or-set_same p i (i - 1) 0 (omega (arith, h.prev_size)) ∙ sym e,
-          )
-      edge j l (no r) = (
-        get_or-set_other q (i - 1) j i 0 (omega arith) ∙ (h.edges j (omega arith)).0,
-        get_or-set_other p i (suc j) (i - 1) 0 r ∙ (h.edges j (omega arith)).1,
-      )
-
-  -- by the numbers that the code writes
-  pub linked_more : (x y : ℕ) → x ≡ i - 1 → y ≡ i → Linked n (i + 1) (set p i x) (set q (i - 1) y) (set a i true)
-  linked_more x y e f = rw (e, f) one_more
-
--- the first corner of blank arrays
-module _ (n : ℕ) (p q : List ℕ) (a : List Bool) (sizes : (length p ≡ 512) × (length q ≡ 512) × (length a ≡ 512)) (big : 3 ≤ n) (small : n ≤ 512) where
-  first_one : Linked n 1 (set p 0 (n - 1)) (set q (n - 1) 0) (set a 0 true)
-  first_one = record {
-    prev_size = simp length-set sizes.0;
-    next_size = simp length-set sizes.1;
-    active_size = simp length-set sizes.2;
-    all-active = λ j l. let e : j ≡ 0 = omega arith in rw e (get_or-set_same a 0 true false (omega (arith, sizes.2)));
-    edges = λ j l. absurd (omega arith);
-    close = (
-      get_or-set_same q (n - 1) 0 0 (omega (arith, sizes.1)),
-      get_or-set_same p 0 (n - 1) 0 (omega (arith, sizes.0)),
-    );
-  }
-
-  pub linked_first : (x : ℕ) → x ≡ n - 1 → Linked n 1 (set p 0 x) (set q (n - 1) 0) (set a 0 true)
-  linked_first x e = rw e first_one
+    go : Dec (j + 1 ≡ n) → after_first n j < n
+    go (yes e) = rw (after_last n j e) (omega arith)
+    go (no e) = rw (after_suc n j (omega arith)) (omega arith)
 
 those-all : (o : ℕ → Bool) (k m : ℕ) → ((j : ℕ) → j < k + m → o j ≡ true) → those o k m ≡ count_from k m
 unfolding those
 those-all o k zero h = refl
 those-all o k (suc m) h = rw (h k (omega arith), those-all o (suc k) m (λ j l. h j (omega arith)))
 
-module _ (n : ℕ) (p q : List ℕ) (a : List Bool) (h : Linked n n p q a) where
-  up : (k m : ℕ) → k + suc m ≡ n → Way (place p) (place q) 0 k (count_from (suc k) m)
-  up k zero e = let r : k ≡ n - 1 = omega arith in rw r h.close
-  up k (suc m) e = (h.edges k (omega arith), up (suc k) m (omega arith))
+module _ (ps : List Pt) (r : List Vertex) (h : Begun ps (length ps) r) (big : 3 ≤ length ps) (small : length ps ≤ 512) where
+  abbrev n : ℕ
+  n = length ps
 
-  links-all : (m : ℕ) → suc m ≡ n → Links (place p) (place q) (count_from 0 (suc m))
+  prevs : (j : ℕ) → j < n → prev_of r j ≡ before_first n j
+  prevs j l = ap (λ (v : Vertex). v.prev) (h.each j l)
+
+  nexts : (j : ℕ) → j < n → next_of r j ≡ after_first n j
+  nexts j l = ap (λ (v : Vertex). v.next) (h.each j l)
+
+  actives : (j : ℕ) → j < n → active_of r j ≡ true
+  actives j l = ap (λ (v : Vertex). v.active) (h.each j l)
+
+  edge : (j : ℕ) → suc j < n → Follows (prev_of r) (next_of r) j (suc j)
+  edge j l = (nexts j (omega arith) ∙ after_suc n j l, prevs (suc j) l ∙ before_suc n j)
+
+  close : (j : ℕ) → j + 1 ≡ n → Follows (prev_of r) (next_of r) j 0
+  close j e = (nexts j (omega arith) ∙ after_last n j e, prevs 0 (omega arith) ∙ (omega arith))
+
+  up : (k m : ℕ) → k + suc m ≡ n → Way (prev_of r) (next_of r) 0 k (count_from (suc k) m)
+  up k zero e = close k (omega arith)
+  up k (suc m) e = (edge k (omega arith), up (suc k) m (omega arith))
+
+  links-all : (m : ℕ) → suc m ≡ n → Links (prev_of r) (next_of r) (count_from 0 (suc m))
   links-all m e = up 0 m (omega arith)
 
-  prevs : (j : ℕ) → j < n → place p j < n
-  prevs zero l = rw h.close.1 (omega arith)
-  prevs (suc j) l = rw (h.edges j l).1 (omega arith)
+  pub ring : ring_in n r ≡ count_from 0 n
+  ring = those-all (active_of r) 0 n (λ j l. actives j (omega arith))
 
-  pub nexts : (j : ℕ) → j < n → place q j < n
-  nexts j l = go (ℕ_discrete (suc j) n)
+  ways : Links (prev_of r) (next_of r) (count_from 0 n)
+  ways = let e : suc (n - 1) ≡ n = omega arith in subst (λ (x : ℕ). Links (prev_of r) (next_of r) (count_from 0 x)) e (links-all (n - 1) e)
+
+  pub first-ringed : Ringed ps n r
+  first-ringed = record {
+    long = h.long;
+    links = rw ring ways;
+    within = λ j l. (rw (prevs j l) (before_low n j l), rw (nexts j l) (after_low n j l));
+    lengths = λ j l e. ap (λ (v : Vertex). v.reciprocal) (h.each j l) ∙ rw (nexts j l);
+  }
+
+  pub first-corner : (j : ℕ) → j < n → AtCorner ps r j
+  first-corner j l = at_corner_lem ps n r first-ringed j l (actives j l) small refl
+
+  pub corner_is : (j : ℕ) → j < n → corner_at r j ≡ linked_corner (before_first n) (after_first n) j
+  corner_is j l = λ i. record { before = prevs j l i; at = j; after = nexts j l i }
+
+-- ---- the ears
+
+-- by the test of a corner's number
+there : (ps : List Pt) (j : ℕ) → j < length ps → first_ear ps j ≡ ear_of ps (linked_corner (before_first (length ps)) (after_first (length ps)) j)
+there ps j l = rw (lt-ltb j (length ps) l)
+
+not_there : (ps : List Pt) (j : ℕ) → length ps ≤ j → first_ear ps j ≡ None
+not_there ps j l = rw (le-ltb j (length ps) l)
+
+-- no ear is worked out yet
+pub none_updated : (ps : List Pt) (w : Winners) → length w.nodes ≡ 1024 → Updated ps 0 w
+none_updated ps w h = record { long = h; ears = λ j k. absurd (omega arith) }
+
+-- one more ear
+pub updated_more :
+    (ps : List Pt) (k : ℕ) (w : Winners) (e : Option Float) → k < w.leaves → w.leaves ≤ 512 → e ≡ first_ear ps k → Updated ps k w → Updated ps (k + 1) (with_node w (w.leaves + k) (ear_entry k e))
+updated_more ps k w e low small is h = record {
+  long = length-set w.nodes (w.leaves + k) _ ∙ h.long;
+  ears = λ j l. ears j l (ℕ_discrete j k);
+}
+  where
+    ears : (j : ℕ) → j < k + 1 → Dec (j ≡ k) → node (with_node w (w.leaves + k) (ear_entry k e)) (w.leaves + j) ≡ ear_entry j (first_ear ps j)
+    ears j l (yes q) =
+        ap (λ (i : ℕ). node (with_node w (w.leaves + k) (ear_entry k e)) (w.leaves + i)) q
+        ∙ set_same w (w.leaves + k) (ear_entry k e) (omega (arith, h.long))
+        ∙ ap (ear_entry k) is ∙ ap (λ (i : ℕ). ear_entry i (first_ear ps i)) (sym q)
+    ears j l (no q) = set_other w (w.leaves + k) (ear_entry k e) (w.leaves + j) (λ x. q (omega arith)) ∙ h.ears j (omega arith)
+
+module _ (ps : List Pt) (proper : (c : Corner ℕ) → Proper (ear_of ps c)) where
+  first-proper : (j : ℕ) → (j < length ps) ⊎ (length ps ≤ j) → Proper (first_ear ps j)
+  first-proper j (inl l) = rw (there ps j l) (proper (linked_corner (before_first (length ps)) (after_first (length ps)) j))
+  first-proper j (inr l) = rw (not_there ps j l) no_ear
+
+  -- the leaves that the tree is built on
+  pub updated_leaves : (w : Winners) → 1 ≤ w.leaves → w.leaves ≤ 512 → Updated ps w.leaves w → Leaves w
+  updated_leaves w least small h = record { long = h.long; least = least; small = small; numbers = λ k l i. number k l i }
     where
-      go : Dec (suc j ≡ n) → place q j < n
-      go (yes r) = let e : j ≡ n - 1 = omega arith in rw (e, h.close.0) (omega arith)
-      go (no r) = rw (h.edges j (omega arith)).0 (omega arith)
+      at : (j : ℕ) → j < w.leaves → Fair (node w (w.leaves + j)).key
+      at j l = subst Fair (sym (ap (λ (e : Entry). e.key) (h.ears j l))) (proper_fair (first-proper j (lt_or_le j (length ps))))
 
-  module _ (ps : List Pt) (big : 3 ≤ n) (r : List Float) (w : Measured ps n q r) (v : List Float) (u : List ℕ) where
-    ring : ring_in n (state p q a r v u) ≡ count_from 0 n
-    ring = those-all (on a) 0 n (λ j l. h.all-active j (omega arith))
+      number : (k : ℕ) → w.leaves ≤ k → k < w.leaves + w.leaves → Fair (node w k).key
+      number k l i = let e : k ≡ w.leaves + (k - w.leaves) = omega arith in rw e (at (k - w.leaves) (omega arith))
 
-    ways : Links (place p) (place q) (count_from 0 n)
-    ways = let e : suc (n - 1) ≡ n = omega arith in subst (λ (x : ℕ). Links (place p) (place q) (count_from 0 x)) e (links-all (n - 1) e)
+module _ (ps : List Pt) (r : List Vertex) (h : Begun ps (length ps) r) (big : 3 ≤ length ps) (small : length ps ≤ 512)
+    (w w' : Winners) (power : Power w.leaves) (room : length ps ≤ w.leaves) (e : Updated ps w.leaves w) (t : Tree w') (same : LeafSame w w') where
+  beyond : (j : ℕ) → j < w.leaves → length ps ≤ j → winner_in w' (w.leaves + j) ≡ nothing
+  beyond j l i = ap decode (same.same (w.leaves + j) (omega arith) ∙ e.ears j l ∙ ap (ear_entry j) (not_there ps j i)) ∙ decode-lowest j
 
-    first-ringed : Ringed ps n (state p q a r v u)
-    first-ringed = record {
-      sized = record { prev = h.prev_size; next = h.next_size; active = h.active_size; reciprocals = w.long };
-      links = rw ring ways;
-      within = λ j l. (prevs j l, nexts j l);
-      lengths = λ j l e. w.lengths j l;
-    }
+  nobody : (j : ℕ) → j < w.leaves → (length ps ≤ j) ⊎ (active_of r j ≡ false) → winner_in w' (w.leaves + j) ≡ nothing
+  nobody j l (inl i) = beyond j l i
+  nobody j l (inr i) = off (lt_or_le j (length ps))
+    where
+      off : (j < length ps) ⊎ (length ps ≤ j) → winner_in w' (w.leaves + j) ≡ nothing
+      off (inl k) = impossible (cc (actives ps r h big small j k))
+      off (inr k) = beyond j l k
 
-    pub first-corners : n ≤ 512 → n ≡ length ps → (j : ℕ) → j < n → AtCorner ps p q r j
-    first-corners small is j l = at_corner_lem ps n (state p q a r v u) first-ringed j l (h.all-active j l) small is
+  ears : (j : ℕ) → j < length ps → active_of r j ≡ true → node w' (w.leaves + j) ≡ ear_entry j (ear_of ps (corner_at r j))
+  ears j l i =
+      same.same (w.leaves + j) (omega arith) ∙ e.ears j (omega arith) ∙ ap (ear_entry j) (there ps j l)
+      ∙ ap (λ (c : Corner ℕ). ear_entry j (ear_of ps c)) (sym (corner_is ps r h big small j l))
 
-    module _ (m : ℕ) (power : Power m) (room : n ≤ m) (v₀ : List Float) (u₀ : List ℕ) (e : Updated ps n m p q v₀ u₀) (t : Tree v u m) (same : LeafSame v₀ u₀ m v u) where
-      beyond : (j : ℕ) → j < m → n ≤ j → winner_in v u (m + j) ≡ nothing
-      beyond j l i =
-          let c = place u₀ (m + j) in
-          ap decode (same.same (m + j) (omega arith) ∙ ap (λ (x : Float). record { key = x; corner = c }) (e.rest j l i)) ∙ decode-lowest c
+  pub first-eared : Eared ps (length ps) r w'
+  first-eared = record { power = rw same.leaves power; room = rw same.leaves room; tree = t; ears = rw same.leaves ears; nobody = rw same.leaves nobody }
 
-      nobody : (j : ℕ) → j < m → (n ≤ j) ⊎ (on a j ≡ false) → winner_in v u (m + j) ≡ nothing
-      nobody j l (inl i) = beyond j l i
-      nobody j l (inr i) = off (lt_or_le j n)
-        where
-          off : (j < n) ⊎ (n ≤ j) → winner_in v u (m + j) ≡ nothing
-          off (inl k) = impossible (cc (h.all-active j k))
-          off (inr k) = beyond j l k
+-- ---- the loop over the leaves
 
-      pub started : Stands ps n m (state p q a r v u) × (ring_in n (state p q a r v u) ≡ count_from 0 n)
-      started = (
-        record {
-          ringed = first-ringed;
-          eared = record { power = power; room = room; tree = t; ears = λ j l i. same.same (m + j) (omega arith) ∙ e.ears j l; nobody = nobody };
-        },
-        ring,
-      )
+pub record Starting (o : Outline) (m i : ℕ) (s : Vertices) : Type 0 where
+  pub outline : s.outline.now ≡ o
+  pub begun : Begun (listed o.points.now) (length (listed o.points.now)) s.ring
+  pub updated : Updated (listed o.points.now) i s.winners
+  pub leaves : s.winners.leaves ≡ m
+  pub power : Power m
+  pub room : length (listed o.points.now) ≤ m
+
+module _ (o : Outline) (m i : ℕ) (s : Vertices) (h : Starting o m i s) (big : 3 ≤ length (listed o.points.now)) where
+  abbrev ps : List Pt
+  ps = listed o.points.now
+
+  same_points : points_in s ≡ ps
+  same_points = ap (λ (x : Outline). listed x.points.now) h.outline
+
+  small : length ps ≤ 512
+  small = o.outlined.small
+
+  leaves_small : m ≤ 512
+  leaves_small = power_small m h.power
+
+  pub starting_corner : i < count_in s → AtCorner (points_in s) s.ring i
+  starting_corner l = rw same_points (first-corner ps s.ring h.begun big small i (rw same_points at l))
+
+  pub leaf_there : i < m → (i < s.winners.leaves) × (s.winners.leaves ≤ 512)
+  leaf_there l = rw h.leaves (l, leaves_small)
+
+  first_is : cond (ltb i (length ps)) (ear_of ps (corner_at s.ring i)) None ≡ first_ear ps i
+  first_is = go (lt_or_le i (length ps))
+    where
+      go : (i < length ps) ⊎ (length ps ≤ i) → cond (ltb i (length ps)) (ear_of ps (corner_at s.ring i)) None ≡ first_ear ps i
+      go (inl l) = ap (λ (c : Corner ℕ). cond (ltb i (length ps)) (ear_of ps c) None) (corner_is ps s.ring h.begun big small i l)
+      go (inr l) = rw (le-ltb i (length ps) l)
+
+  pub starting_more :
+      i < m → (e : Option Float) → e ≡ cond (ltb i (count_in s)) (ear_of (points_in s) (corner_at s.ring i)) None → (w : Winners) → w ≡ with_node s.winners (s.winners.leaves + i) (ear_entry i e)
+      → Starting o m (i + 1) (record { outline = s.outline; ring = s.ring; winners = w })
+  starting_more l e is w q =
+      rw q
+      (record {
+        outline = h.outline;
+        begun = h.begun;
+        updated = updated_more ps i s.winners e (leaf_there l).0 (leaf_there l).1 (is ∙ rw same_points first_is) h.updated;
+        leaves = h.leaves;
+        power = h.power;
+        room = h.room;
+      })
+
+  module _ (all : i ≡ m) where
+    updated_all : Updated ps s.winners.leaves s.winners
+    updated_all = subst (λ (x : ℕ). Updated ps x s.winners) (all ∙ sym h.leaves) h.updated
+
+    pub starting_leaves : Leaves s.winners
+    starting_leaves =
+        updated_leaves ps (proper o.points.now.coords.now o.points.now.on_grid) s.winners (omega (arith, h.room, h.leaves)) (omega (arith, h.leaves, leaves_small)) updated_all
+
+    pub started :
+        (w : Winners) → Tree w → LeafSame s.winners w
+        → Stands (record { outline = s.outline; ring = s.ring; winners = w }) × (ring_in (length ps) s.ring ≡ count_from 0 (length ps))
+    started w t same =
+        let power : Power s.winners.leaves = rw h.leaves h.power in
+        let room : length ps ≤ s.winners.leaves = rw h.leaves h.room in
+        let ringed : Ringed (points_in s) (count_in s) s.ring = rw same_points (first-ringed ps s.ring h.begun big small) in
+        let eared : Eared (points_in s) (count_in s) s.ring w = rw same_points (first-eared ps s.ring h.begun big small s.winners w power room updated_all t same) in
+        (record { ringed = ringed; eared = eared }, ring ps s.ring h.begun big small)

@@ -1,241 +1,229 @@
-// The vertices of an outline that is cut: neighbours, which are active, the lengths of the edges, and the ears with the next one to cut. The
-// crate's `VertexInfo`, as arrays.
+// The vertices of an outline that is cut: neighbours, which are active, the lengths of the edges, and the ears with the next one to cut. After
+// the crate's `VertexInfo`.
 #![tactic(auto)]
 
-pub mod ear;
-
-ghost use Rattle.std.specs.Prelude.{◌≡◌, true, false, ℕ, ◌<◌, ◌≤◌, length, set};
+ghost use Rattle.std.specs.Prelude.{◌≡◌, true, ◌+◌, ◌<◌, ◌≤◌, length, cond, ltb, Option, None};
 ghost use Rattle.algebra.specs.Lists.{count_from};
-ghost use Rattle.rules.specs.Grid.{points_of};
-ghost use Rattle.rules.specs.Plane.{minus, point};
-ghost use Rattle.rules.specs.Root.{reciprocal};
-ghost use Rattle.rules.specs.Refusals.{off_grid};
-ghost use Rattle.blocking.specs.Outlined.{Outlined};
-ghost use Rattle.winners.specs.Keys.{Nobody, Power};
+ghost use Rattle.rules.specs.Limits.{most_points};
+ghost use Rattle.grid.specs.Listed.{listed};
+ghost use Rattle.winners.specs.Keys.{root_of};
 ghost use Rattle.vertices.specs.Ears.{ear_of};
-ghost use Rattle.vertices.specs.Vertices.{state, place, on, linked_corner, AtCorner, Clipped, Sized, Stands, Linked, Measured, Updated, lowest_from, ring_in};
+ghost use Rattle.vertices.specs.Vertices.{points_in, count_in, Room, prev_of, next_of, active_of, corner_at, edge_of, first_vertex, before_first, after_first, Begun, AtCorner, TakenOut, with_reciprocal, Clipped, Stands, lowest_from, ring_in};
 
-use ear::{Triangle, update_vertex};
-use entries::narrow;
-use winners::{Ear, build, put_leaf, set_ear};
+use blocking::outline::Outline;
+use grid::point_in_triangle::corner_direction;
+use grid::points::Points;
+use winners::Winners;
 
-// Takes corner i out of the ring.
-fn unlink(prev: &mut [u16; 512], next: &mut [u16; 512], active: &mut [bool; 512], i: usize)
-    requires i_bound { i < 512 }
-    requires i_bound_2 { (place prev.old i < 512) × (place next.old i < 512) }
-    ensures prev_after { prev.new ≡ set prev.old (place next.old i) (place prev.old i) }
-    ensures next_after { next.new ≡ set next.old (place prev.old i) (place next.old i) }
-    ensures active_after { active.new ≡ set active.old i false }
-{
-    let p = prev[i];
-    let n = next[i];
-    let before = entries::place(p);
-    let after = entries::place(n);
-    next[before] = n;
-    prev[after] = p;
-    active[i] = false;
+// The corners before and after it, whether it is still in the ring, and 1 over the length of the edge to the corner after it.
+#[derive(Clone, Copy)]
+pub struct Vertex {
+    pub prev: u16,
+    pub next: u16,
+    pub active: bool,
+    pub reciprocal: f32,
 }
 
-// Keeps the reciprocal of the length of the edge from corner i to corner j.
-fn measure(coords: &[f32], i: usize, j: usize, reciprocals: &mut [f32; 512])
-    requires coords_value { off_grid coords.now ≡ false }
-    requires i_bound { (i < 512) × (i < length (points_of coords.now)) × (j < length (points_of coords.now)) }
-    ensures { reciprocals.new
-        ≡ set reciprocals.old i (reciprocal (minus (point (points_of coords.now) j) (point (points_of coords.now) i))) }
-{
-    let p = grid::point_at(coords, i);
-    let q = grid::point_at(coords, j);
-    reciprocals[i] = root::reciprocal(q, p);
+#[derive(Drop)]
+pub struct Vertices<'a> {
+    pub outline: &'a Outline<'a>,
+    pub ring: [Vertex; 512],
+    pub winners: Winners,
 }
 
-// The ear at corner i.
-fn ear_at(
-    coords: &[f32],
-    xs: &[f32; 512],
-    ys: &[f32; 512],
-    strips: &[u64; 260],
-    prev: &[u16; 512],
-    next: &[u16; 512],
-    reciprocals: &[f32; 512],
+// The corner before i in a ring of n.
+fn before(i: usize, n: usize) -> usize
+    requires { i < n }
+    ensures { result ≡ before_first n i }
+{
+    if i == 0 { n - 1 } else { i - 1 }
+}
+
+// And the one after it.
+fn after(i: usize, n: usize) -> usize
+    requires { i < n }
+    ensures { result ≡ after_first n i }
+{
+    if i + 1 == n { 0 } else { i + 1 }
+}
+
+// Corner i of the whole ring.
+fn first_vertex(points: &Points, i: usize) -> Vertex
+    requires in_bounds { i < length (listed points.now) }
+    requires at_most { length (listed points.now) ≤ most_points }
+    ensures { result ≡ first_vertex (listed points.now) i }
+{
+    let n = points.count();
+    let next = after(i, n);
+    Vertex {
+        prev: before(i, n) as u16,
+        next: next as u16,
+        active: true,
+        reciprocal: root::reciprocal(points.at(next), points.at(i)),
+    }
+}
+
+// Begins the whole ring.
+fn link(points: &Points, ring: &mut [Vertex; 512])
+    requires at_most { length (listed points.now) ≤ most_points }
+    requires long { length ring.old ≡ 512 }
+    ensures { Begun (listed points.now) (length (listed points.now)) ring.new }
+{
+    for i in 0..points.count() {
+        ring[i] = first_vertex(points, i);
+    }
+}
+
+// The ear at corner i between two others, by the reciprocals of the lengths to both: its pointiness, where it is convex and no point of the whole
+// outline blocks it.
+pub fn update_vertex(
+    outline: &Outline,
+    prev: usize,
     i: usize,
-) -> Ear
-    requires coords_value { off_grid coords.now ≡ false }
-    requires outlined { Outlined (points_of coords.now) xs.now ys.now strips.now }
-    requires at_corner { AtCorner (points_of coords.now) prev.now next.now reciprocals.now i }
-    ensures { result ≡ ear_of (points_of coords.now) (linked_corner (place prev.now) (place next.now) i) }
+    next: usize,
+    before: f32,
+    after: f32,
+) -> Option<f32>
+    requires corners { (prev < length (listed outline.now.points.now)) × (i < length (listed outline.now.points.now)) × (next < length (listed outline.now.points.now)) }
+    requires before { before ≡ edge_of (listed outline.now.points.now) i prev }
+    requires after { after ≡ edge_of (listed outline.now.points.now) i next }
+    ensures { result ≡ ear_of (listed outline.now.points.now) (record { before = prev; at = i; after = next }) }
 {
-    let before = entries::place(prev[i]);
-    let after = entries::place(next[i]);
-    let t = Triangle {
-        before,
-        at: i,
-        after,
-    };
-    update_vertex(
-        coords,
-        xs,
-        ys,
-        strips,
-        t,
-        reciprocals[before],
-        reciprocals[i],
-    )
+    let p1 = outline.points.at(prev);
+    let p = outline.points.at(i);
+    let p3 = outline.points.at(next);
+    if !corner_direction(p1, p, p3).is_ccw() {
+        return None;
+    }
+    if outline.blocked(p1, p, p3) {
+        return None;
+    }
+    Some(root::pointiness(p1, p, p3, before, after))
 }
 
-// Cuts corner i, and works out the ears of its neighbours again.
-pub fn clip(
-    coords: &[f32],
-    xs: &[f32; 512],
-    ys: &[f32; 512],
-    strips: &[u64; 260],
-    n: usize,
-    m: usize,
-    i: usize,
-    prev: &mut [u16; 512],
-    next: &mut [u16; 512],
-    active: &mut [bool; 512],
-    reciprocals: &mut [f32; 512],
-    val: &mut [f32; 1024],
-    win: &mut [u16; 1024],
-)
-    requires coords_value { off_grid coords.now ≡ false }
-    requires outlined { Outlined (points_of coords.now) xs.now ys.now strips.now }
-    requires n_bound { (n ≤ 512) × (n ≡ length (points_of coords.now)) }
-    requires i_lt_n { (i < n) × (on active.old i ≡ true) }
-    requires in_bounds { 2 ≤ length (ring_in n (state prev.old next.old active.old reciprocals.old val.old win.old)) }
-    requires stands { Stands (points_of coords.now) n m (state prev.old next.old active.old reciprocals.old val.old win.old) }
-    ensures { Clipped (points_of coords.now) n m (state prev.old next.old active.old reciprocals.old val.old win.old) i
-        (state prev.new next.new active.new reciprocals.new val.new win.new) }
-{
-    let before = entries::place(prev[i]);
-    let after = entries::place(next[i]);
-    unlink(prev, next, active, i);
-    measure(coords, before, after, reciprocals);
-    let e = ear_at(coords, xs, ys, strips, prev, next, reciprocals, before);
-    let f = ear_at(coords, xs, ys, strips, prev, next, reciprocals, after);
-    set_ear(val, win, m, before, e);
-    set_ear(val, win, m, after, f);
-    set_ear(val, win, m, i, Ear::No);
-}
-
-// The lowest active number among the first n, or n.
-pub fn lowest(active: &[bool; 512], n: usize) -> usize
-    requires { n ≤ 512 }
-    ensures { result ≡ lowest_from (on active.now) 0 n }
-{
-    let mut i = 0;
-    while i < n {
-        if active[i] {
-            return i;
+impl<'a> Vertices<'a> {
+    // Room for the vertices of an outline.
+    pub fn new(outline: &'a Outline<'a>) -> Vertices<'a>
+        ensures outline { result.outline.now ≡ outline.now }
+        ensures room { Room result }
+    {
+        Vertices {
+            outline,
+            ring: [Vertex {
+                prev: 0,
+                next: 0,
+                active: false,
+                reciprocal: 0.0,
+            }; 512],
+            winners: Winners::new(outline.points.count()),
         }
-        i += 1;
     }
-    i
-}
 
-// Links the corners 0 to n - 1.
-fn link(n: usize, prev: &mut [u16; 512], next: &mut [u16; 512], active: &mut [bool; 512])
-    requires le_n { (3 ≤ n) × (n ≤ 512) }
-    requires prev_len { (length prev.old ≡ 512) × (length next.old ≡ 512) × (length active.old ≡ 512) }
-    ensures { Linked n n prev.new next.new active.new }
-{
-    let last = n - 1;
-    prev[0] = narrow(last);
-    next[last] = 0;
-    active[0] = true;
-    let mut i = 1;
-    while i < n {
-        let p = i - 1;
-        prev[i] = narrow(p);
-        next[p] = narrow(i);
-        active[i] = true;
-        i += 1;
+    // The ear of leaf i in the beginning: that at corner i, and none where there is no such corner.
+    fn first_ear(&self, i: usize) -> Option<f32>
+        requires { i < count_in self.now → AtCorner (points_in self.now) self.now.ring i }
+        ensures { result ≡ cond (ltb i (count_in self.now)) (ear_of (points_in self.now) (corner_at self.now.ring i)) None }
+    {
+        if i < self.outline.points.count() {
+            self.ear_at(i)
+        } else {
+            None
+        }
     }
-}
 
-// Keeps the reciprocals of the lengths of the edges from the corners 0 to n - 1.
-fn measure_all(coords: &[f32], n: usize, next: &[u16; 512], reciprocals: &mut [f32; 512])
-    requires coords_value { off_grid coords.now ≡ false }
-    requires n_bound { (n ≤ 512) × (n ≡ length (points_of coords.now)) }
-    requires reciprocals_len { length reciprocals.old ≡ 512 }
-    requires by_index { (j : ℕ) → j < n → place next.now j < n }
-    ensures { Measured (points_of coords.now) n next.now reciprocals.new }
-{
-    let mut i = 0;
-    while i < n {
-        let j = entries::place(next[i]);
-        measure(coords, i, j, reciprocals);
-        i += 1;
+    // Begins with the whole ring, and its ears.
+    pub fn start(&mut self)
+        requires three { 3 ≤ count_in self.old }
+        requires room { Room self.old }
+        ensures stands { Stands self.new }
+        ensures outline { self.new.outline.now ≡ self.old.outline.now }
+        ensures ring { ring_in (count_in self.old) self.new.ring ≡ count_from 0 (count_in self.old) }
+    {
+        link(self.outline.points, &mut self.ring);
+        for i in 0..self.winners.leaves {
+            let ear = self.first_ear(i);
+            self.winners.put_leaf(i, ear);
+        }
+        self.winners.build();
     }
-}
 
-// Works out the ears of the corners 0 to n - 1.
-fn update_all(
-    coords: &[f32],
-    xs: &[f32; 512],
-    ys: &[f32; 512],
-    strips: &[u64; 260],
-    n: usize,
-    m: usize,
-    prev: &[u16; 512],
-    next: &[u16; 512],
-    reciprocals: &[f32; 512],
-    val: &mut [f32; 1024],
-    win: &mut [u16; 1024],
-)
-    requires coords_value { off_grid coords.now ≡ false }
-    requires outlined { Outlined (points_of coords.now) xs.now ys.now strips.now }
-    requires n_le_m { (n ≤ m) × (m ≤ 512) }
-    requires by_index { (j : ℕ) → j < n → AtCorner (points_of coords.now) prev.now next.now reciprocals.now j }
-    requires nobody { Nobody val.old × (length win.old ≡ 1024) }
-    ensures { Updated (points_of coords.now) n m prev.now next.now val.new win.new }
-{
-    let mut i = 0;
-    while i < n {
-        let e = ear_at(coords, xs, ys, strips, prev, next, reciprocals, i);
-        put_leaf(val, win, m, i, e);
-        i += 1;
+    // Keeps the length of the edge from corner i to corner j.
+    fn measure(&mut self, i: usize, j: usize)
+        requires from { i < count_in self.old }
+        requires to { j < count_in self.old }
+        ensures { self.new ≡ record self.old { ring = with_reciprocal self.old.ring i (edge_of (points_in self.old) i j) } }
+    {
+        let points = self.outline.points;
+        self.ring[i].reciprocal = root::reciprocal(points.at(j), points.at(i));
     }
-}
 
-// The whole ring, with its ears.
-pub fn start(
-    coords: &[f32],
-    xs: &[f32; 512],
-    ys: &[f32; 512],
-    strips: &[u64; 260],
-    n: usize,
-    m: usize,
-    prev: &mut [u16; 512],
-    next: &mut [u16; 512],
-    active: &mut [bool; 512],
-    reciprocals: &mut [f32; 512],
-    val: &mut [f32; 1024],
-    win: &mut [u16; 1024],
-)
-    requires coords_value { off_grid coords.now ≡ false }
-    requires outlined { Outlined (points_of coords.now) xs.now ys.now strips.now }
-    requires le_n { (3 ≤ n) × (n ≤ 512) × (n ≡ length (points_of coords.now)) }
-    requires power { Power m × (n ≤ m) }
-    requires sized { Sized (state prev.old next.old active.old reciprocals.old val.old win.old) }
-    requires nobody { Nobody val.old × (length win.old ≡ 1024) }
-    ensures stands { Stands (points_of coords.now) n m (state prev.new next.new active.new reciprocals.new val.new win.new) }
-    ensures win_after { ring_in n (state prev.new next.new active.new reciprocals.new val.new win.new) ≡ count_from 0 n }
-{
-    link(n, prev, next, active);
-    measure_all(coords, n, next, reciprocals);
-    update_all(
-        coords,
-        xs,
-        ys,
-        strips,
-        n,
-        m,
-        prev,
-        next,
-        reciprocals,
-        val,
-        win,
-    );
-    build(val, win, m);
+    // Takes corner i out of the ring.
+    fn unlink(&mut self, i: usize)
+        requires in_bounds { i < 512 }
+        requires long { length self.old.ring ≡ 512 }
+        requires neighbours { (prev_of self.old.ring i < 512) × (next_of self.old.ring i < 512) }
+        ensures taken_out { TakenOut self.old.ring i self.new.ring }
+        ensures outline { self.new.outline.now ≡ self.old.outline.now }
+        ensures winners { self.new.winners ≡ self.old.winners }
+    {
+        let Vertex { prev, next, .. } = self.ring[i];
+        self.ring[usize::from(prev)].next = next;
+        self.ring[usize::from(next)].prev = prev;
+        self.ring[i].active = false;
+    }
+
+    // The ear at corner i.
+    fn ear_at(&self, i: usize) -> Option<f32>
+        requires { AtCorner (points_in self.now) self.now.ring i }
+        ensures { result ≡ ear_of (points_in self.now) (corner_at self.now.ring i) }
+    {
+        let Vertex {
+            prev,
+            next,
+            reciprocal,
+            ..
+        } = self.ring[i];
+        let prev = usize::from(prev);
+        let next = usize::from(next);
+        let before = self.ring[prev].reciprocal;
+        update_vertex(self.outline, prev, i, next, before, reciprocal)
+    }
+
+    // Cuts corner i, and works out the ears of its neighbours again.
+    pub fn clip(&mut self, i: usize)
+        requires active { (i < count_in self.old) × (active_of self.old.ring i ≡ true) }
+        requires two { 2 ≤ length (ring_in (count_in self.old) self.old.ring) }
+        requires stands { Stands self.old }
+        ensures { Clipped self.old i self.new }
+    {
+        let before = usize::from(self.ring[i].prev);
+        let after = usize::from(self.ring[i].next);
+        self.unlink(i);
+        self.measure(before, after);
+        let ear_before = self.ear_at(before);
+        let ear_after = self.ear_at(after);
+        self.winners.set_ear(before, ear_before);
+        self.winners.set_ear(after, ear_after);
+        self.winners.set_ear(i, None);
+    }
+
+    // The corner of the ear to be cut next.
+    pub fn pointiest(&self) -> Option<usize>
+        ensures { result ≡ root_of self.now.winners }
+    {
+        self.winners.pointiest()
+    }
+
+    // The lowest corner that is still in the ring, or the number of all.
+    pub fn lowest(&self) -> usize
+        ensures { result ≡ lowest_from (active_of self.now.ring) 0 (count_in self.now) }
+    {
+        let n = self.outline.points.count();
+        for i in 0..n {
+            if self.ring[i].active {
+                return i;
+            }
+        }
+        n
+    }
 }

@@ -1,206 +1,136 @@
-// The ear that is cut next: a tree of maxima over the corners. Node k has the children 2 k and 2 k + 1, and corner i is the leaf m + i, where m
-// is a power of two. A node holds the better of its children's ears, of equals the later, and its corner.
+// The ear that is cut next: a tree of maxima over the corners.
 #![tactic(auto)]
 
-ghost use Rattle.std.specs.Prelude.{◌≡◌, true, false, cond, ℕ, ◌+◌, ◌*◌, ◌-◌, ◌/◌, ◌<◌, ◌≤◌, length, get_or, replicate, set};
+ghost use Rattle.std.specs.Prelude.{◌≡◌, true, false, ◌+◌, ◌<◌, ◌≤◌, length};
+ghost use Rattle.std.specs.Int.Bits.{bit_xor};
 ghost use Rattle.std.specs.Float.Ieee.{is_nan};
-ghost use Rattle.std.specs.Float.{nan};
-ghost use Rattle.rules.specs.Cut.{nothing, better};
-ghost use Rattle.winners.specs.Keys.{Nobody, to_ear, from_ear, key_of, ear_in, Proper, Fair, BetterOf, Beside, Tree, Leaves, LeafSame, LeafSet, Power, root_of};
+ghost use Rattle.winners.specs.Keys.{Proper, Fair, ear_entry, node, with_node, BetterOf, WithSibling, Leaves, Tree, LeafSame, LeafSet, Power, root_of};
 
-use entries::{narrow, place};
+// The key of a corner that is no ear: below the pointiness of any.
+const NO_EAR: f32 = -16777216.0;
 
-// A corner is either no ear, or an ear that carries its pointiness.
-#[derive(Clone, Copy)]
-pub enum Ear {
-    No,
-    Pointed(f32),
-}
-
-// A corner with its ear, as it stands in the tree.
+// A corner with the pointiness of its ear, or with the key of none.
 #[derive(Clone, Copy)]
 pub struct Entry {
     pub key: f32,
     pub corner: u16,
 }
 
-// The corner of the ear that is chosen.
-#[derive(Clone, Copy)]
-pub enum Pick {
-    Nothing,
-    At(usize),
-}
-
-// An ear's pointiness, and for none -2^24, which is below any.
-fn key_of(e: Ear) -> f32
-    ensures { result ≡ key_of e }
-{
-    match e {
-        Ear::No => -16777216.0,
-        Ear::Pointed(v) => v,
-    }
-}
-
-fn ear_of(key: f32) -> Ear
-    ensures { result ≡ from_ear (ear_in key) }
-{
-    if key == -16777216.0 {
-        Ear::No
-    } else {
-        Ear::Pointed(key)
-    }
-}
-
-// Whether the later ear b is taken rather than a: it is no less pointed. None is less pointed than any.
-fn takes_later(a: Ear, b: Ear) -> bool
-    requires { Proper a × Proper b }
-    ensures { (i j : ℕ) → better (better nothing i (to_ear a)) j (to_ear b) ≡ cond result (better nothing j (to_ear b)) (better nothing i (to_ear a)) }
-{
-    key_of(a) <= key_of(b)
-}
-
-fn better_of(a: Entry, b: Entry) -> Entry
-    requires { Fair a.key × Fair b.key }
-    ensures { BetterOf a b result }
-{
-    if takes_later(ear_of(a.key), ear_of(b.key)) {
-        b
-    } else {
-        a
-    }
-}
-
-fn filled(key: f32) -> [f32; 1024]
-    ensures { result ≡ replicate 1024 key }
-{
-    [key; 1024]
-}
-
-// Nobody anywhere.
-pub fn no_ears() -> [f32; 1024]
-    ensures { Nobody result }
-{
-    filled(key_of(Ear::No))
-}
-
-pub fn no_corners() -> [u16; 1024]
-    ensures { length result ≡ 1024 }
-{
-    [0u16; 1024]
-}
-
-// The number of leaves for n corners: a power of two, and enough for them.
-pub fn leaves_for(n: usize) -> usize
-    requires { n ≤ 512 }
-    ensures { Power result × (n ≤ result) }
-{
-    let mut m = 1;
-    while m < n {
-        m *= 2;
-    }
-    m
-}
-
-// Writes the ear of corner i at its leaf, where the nodes above are not there yet.
-pub fn put_leaf(val: &mut [f32; 1024], win: &mut [u16; 1024], m: usize, i: usize, e: Ear)
-    requires { (i < m) × (m ≤ 512) }
-    ensures val_after { val.new ≡ set val.old (m + i) (key_of e) }
-    ensures win_after { win.new ≡ set win.old (m + i) i }
-{
-    val[m + i] = key_of(e);
-    win[m + i] = narrow(i);
-}
-
-// Puts the nodes right from the leaves up.
-pub fn build(val: &mut [f32; 1024], win: &mut [u16; 1024], m: usize)
-    requires { Leaves val.old win.old m }
-    ensures tree { Tree val.new win.new m }
-    ensures leaf_same { LeafSame val.old win.old m val.new win.new }
-{
-    let mut k = m;
-    while 1 < k {
-        k -= 1;
-        let l = k * 2;
-        let left = Entry {
-            key: val[l],
-            corner: win[l],
-        };
-        let e = beside(val, win, l, left);
-        val[k] = e.key;
-        win[k] = e.corner;
-    }
-}
-
-// The better of node k, which holds `own`, and the node beside it, its parent's other child.
-fn beside(val: &[f32; 1024], win: &[u16; 1024], k: usize, own: Entry) -> Entry
-    requires le_k { (2 ≤ k) × (k < 1024) }
-    requires fair { Fair own.key × Fair (get_or val.now (k / 2 * 4 + 1 - k) nan) }
-    ensures { Beside val.now win.now k own result }
-{
-    let o = k / 2 * 4 + 1 - k;
-    let other = Entry {
-        key: val[o],
-        corner: win[o],
-    };
-    if k % 2 == 0 {
-        better_of(own, other)
-    } else {
-        better_of(other, own)
-    }
-}
-
-// Whether two keys are the same, bit for bit: -0 equals 0 and is not the same.
-fn same_key(a: f32, b: f32) -> bool
-    requires { (is_nan a ≡ false) × (is_nan b ≡ false) }
-    ensures { result ≡ true → a ≡ b }
-{
-    f32::to_bits(a) == f32::to_bits(b)
-}
-
-// Whether a node with this key and corner holds e.
-fn holds(e: Entry, key: f32, corner: u16) -> bool
-    requires { (is_nan e.key ≡ false) × (is_nan key ≡ false) }
-    ensures { result ≡ true → (e.key ≡ key) × (e.corner ≡ corner) }
-{
-    if e.corner == corner {
-        same_key(e.key, key)
-    } else {
-        false
-    }
-}
-
-// Sets the ear of corner i, and puts the way up to the root right, as far as something changes.
-pub fn set_ear(val: &mut [f32; 1024], win: &mut [u16; 1024], m: usize, i: usize, e: Ear)
-    requires tree { Tree val.old win.old m }
-    requires i_lt_m { i < m }
-    requires proper { Proper e }
-    ensures tree_2 { Tree val.new win.new m }
-    ensures leaf_set { LeafSet val.old win.old m i (key_of e) val.new win.new }
-{
-    let mut k = m + i;
-    let mut best = Entry {
-        key: key_of(e),
-        corner: narrow(i),
-    };
-    val[k] = best.key;
-    win[k] = best.corner;
-    while 1 < k {
-        best = beside(val, win, k, best);
-        k /= 2;
-        if holds(best, val[k], win[k]) {
-            return;
+impl Entry {
+    fn new(corner: usize, ear: Option<f32>) -> Entry
+        requires { corner < 512 }
+        ensures { result ≡ ear_entry corner ear }
+    {
+        Entry {
+            key: ear.unwrap_or(NO_EAR),
+            corner: corner as u16,
         }
-        val[k] = best.key;
-        win[k] = best.corner;
+    }
+
+    // The better of two, of equals the later.
+    fn better(self, later: Entry) -> Entry
+        requires { Fair self.key × Fair later.key }
+        ensures { BetterOf self later result }
+    {
+        if self.key <= later.key { later } else { self }
+    }
+
+    // Whether both are the same, bit for bit: -0 equals 0 and is not the same.
+    fn same(self, other: Entry) -> bool
+        requires { (is_nan self.key ≡ false) × (is_nan other.key ≡ false) }
+        ensures { result ≡ true → self ≡ other }
+    {
+        self.corner == other.corner && self.key.to_bits() == other.key.to_bits()
     }
 }
 
-// The ear of greatest pointiness, of equals that of the highest corner.
-pub fn pointiest(val: &[f32; 1024], win: &[u16; 1024]) -> Pick
-    ensures { result ≡ root_of val.now win.now }
-{
-    match ear_of(val[1]) {
-        Ear::No => Pick::Nothing,
-        Ear::Pointed(_) => Pick::At(place(win[1])),
+// Node k has the children 2 k and 2 k + 1, and corner i is the leaf `leaves` + i, where `leaves` is a power of two. A node holds the better of
+// its children's ears, of equals the later, and its corner.
+#[derive(Drop)]
+pub struct Winners {
+    pub nodes: [Entry; 1024],
+    pub leaves: usize,
+}
+
+impl Winners {
+    // Room for n corners.
+    pub fn new(n: usize) -> Winners
+        requires { n ≤ 512 }
+        ensures long { length result.nodes ≡ 1024 }
+        ensures enough { Power result.leaves × (n ≤ result.leaves) }
+    {
+        Winners {
+            nodes: [Entry {
+                key: 0.0,
+                corner: 0,
+            }; 1024],
+            leaves: n.next_power_of_two(),
+        }
+    }
+
+    // Writes the ear of corner i at its leaf, where the nodes above are not there yet.
+    pub fn put_leaf(&mut self, i: usize, ear: Option<f32>)
+        requires { (i < self.old.leaves) × (self.old.leaves ≤ 512) }
+        ensures { self.new ≡ with_node self.old (self.old.leaves + i) (ear_entry i ear) }
+    {
+        self.nodes[self.leaves + i] = Entry::new(i, ear);
+    }
+
+    // Puts the nodes right from the leaves up.
+    pub fn build(&mut self)
+        requires { Leaves self.old }
+        ensures tree { Tree self.new }
+        ensures leaf_same { LeafSame self.old self.new }
+    {
+        for k in (1..self.leaves).rev() {
+            self.nodes[k] = self.nodes[2 * k].better(self.nodes[2 * k + 1]);
+        }
+    }
+
+    // The better of node k, which holds `own`, and the node beside it, its parent's other child.
+    fn with_sibling(&self, k: usize, own: Entry) -> Entry
+        requires in_bounds { (2 ≤ k) × (k < 1024) }
+        requires fair { Fair own.key × Fair (node self.now (bit_xor k 1)).key }
+        ensures { WithSibling self.now k own result }
+    {
+        let sibling = self.nodes[k ^ 1];
+        if k % 2 == 0 {
+            own.better(sibling)
+        } else {
+            sibling.better(own)
+        }
+    }
+
+    // Sets the ear of corner i, and puts the way up to the root right, as far as something changes.
+    pub fn set_ear(&mut self, i: usize, ear: Option<f32>)
+        requires tree { Tree self.old }
+        requires leaf { i < self.old.leaves }
+        requires proper { Proper ear }
+        ensures tree_after { Tree self.new }
+        ensures leaf_set { LeafSet self.old i ear self.new }
+    {
+        let mut k = self.leaves + i;
+        let mut best = Entry::new(i, ear);
+        self.nodes[k] = best;
+        while 1 < k {
+            best = self.with_sibling(k, best);
+            k /= 2;
+            if best.same(self.nodes[k]) {
+                return;
+            }
+            self.nodes[k] = best;
+        }
+    }
+
+    // The corner of the ear of greatest pointiness, of equals the highest.
+    pub fn pointiest(&self) -> Option<usize>
+        ensures { result ≡ root_of self.now }
+    {
+        let root = self.nodes[1];
+        if root.key == NO_EAR {
+            None
+        } else {
+            Some(usize::from(root.corner))
+        }
     }
 }

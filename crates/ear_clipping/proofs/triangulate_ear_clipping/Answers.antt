@@ -1,25 +1,23 @@
 -- `triangulate_ear_clipping` meets its promise.
-use native.Mathlib.Omega.{arith}
-use mathlib.Core.Path.{sym, ◌∙◌}
-use Rattle.rules.proofs.Coordinates.{points-length}
+use mathlib.Core.Path.{sym}
+use Rattle.std.proofs.lemmas.Result.{err_from_is_err_and}
 use Rattle.rules.proofs.Accepted.{ready}
-use Rattle.ear_clipping.proofs.Entry.{refused, without-ear, with-triangles}
+use Rattle.ear_clipping.proofs.Entry.{refused_early, cut_promised}
 use Rattle.ear_clipping.proofs.triangulate_ear_clipping.Goals as goal
 
-pub returns-then-number-ne0 : goal.returns-then-number-ne0
-returns-then-number-ne0 c = refused _ _ c.refusal-number.ensures c.if-number-ne0.true
+pub returns-in_err-points : goal.returns-in_err-points
+returns-in_err-points c =
+    let p = err_from_is_err_and c.from_residual.result c.from_residual.ensures.1 in
+    rw (p.1, p.2) (refused_early _ _ _ c.in_err-points.ensures.number)
 
-pub cut-count-requires : goal.cut-count-requires
-cut-count-requires c =
-    let r = ready _ _ (sym c.refusal-number.ensures ∙ c.if-number-ne0.false) in
-    let o = r.outlines in
-    let l = points-length c.args.coords.now in
-    record { coords_value = o.on_grid; le_n = (omega (arith, o.at_least), omega (arith, o.at_most), sym l); n_in_bounds = omega (arith, r.fits) }
+pub cut-requires-clause-at_least : goal.cut-requires-clause-at_least
+cut-requires-clause-at_least c = rw c.in_ok-points.ensures.same (ready _ _ (sym c.in_ok-points.ensures.number)).outlines.at_least
 
-pub returns-then-count-eq0 : goal.returns-then-count-eq0
-returns-then-count-eq0 c =
-    without-ear _ _ c.refusal-number.ensures c.if-number-ne0.false _ _ c.cut-count.ensures c.if-count-eq0.true
+pub cut-requires-clause-at_most : goal.cut-requires-clause-at_most
+cut-requires-clause-at_most c = rw c.in_ok-points.ensures.same (ready _ _ (sym c.in_ok-points.ensures.number)).outlines.at_most
+
+pub cut-requires-clause-room : goal.cut-requires-clause-room
+cut-requires-clause-room c = rw c.in_ok-points.ensures.same (ready _ _ (sym c.in_ok-points.ensures.number)).fits
 
 pub returns : goal.returns
-returns c =
-    with-triangles _ _ c.refusal-number.ensures c.if-number-ne0.false _ _ c.cut-count.ensures c.if-count-eq0.false
+returns c = cut_promised _ _ c.in_ok-points.ensures.number _ _ (rw c.in_ok-points.ensures.same at c.cut.ensures)

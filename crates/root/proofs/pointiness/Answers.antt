@@ -7,4 +7,4 @@ use Rattle.root.proofs.pointiness.Goals as goal
 
 pub returns : goal.returns
 returns c =
-    c.dot.ensures ∙ pointiness_of (minus (pt_of c.args.q) (pt_of c.args.p)) (minus (pt_of c.args.s) (pt_of c.args.p)) c.direction-v.ensures.x_value c.direction-v.ensures.y_value c.direction-w.ensures.x_value c.direction-w.ensures.y_value
+    c.dot.ensures ∙ pointiness_of (minus (pt_of c.args.q) (pt_of c.args.p)) (minus (pt_of c.args.s) (pt_of c.args.p)) c.direction-v.ensures.x c.direction-v.ensures.y c.direction-w.ensures.x c.direction-w.ensures.y

@@ -1,8 +1,0 @@
--- `sides_at` meets its contract.
-use mathlib.Core.Path.{refl}
-use Rattle.blocking.specs.InFloats.{sides_of}
-use Rattle.blocking.proofs.sides_at.Goals as goal
-
-pub returns : goal.returns
-unfolding sides_of
-returns c = refl
