@@ -22,18 +22,19 @@ module _ (cs : List Float) (tri out lens : List ℕ) where
   promised : (r : Answer) (out' lens' : List ℕ) → merger cs tri out lens ≡ record { number = r.number; count = r.count; indices = out'; lengths = lens' } → Promise cs tri out lens r out' lens'
   promised r out' lens' e = record { number = rw e; count = rw e; indices_are = rw e; lengths_are = rw e }
 
-  module _ (n : ℕ) (is : n ≡ first_refusal (merger_checks cs tri (length out) (length lens))) where
-    number_is : (merger cs tri out lens).number ≡ n
-    number_is = merger-number cs tri out lens ∙ sym is
+  number_is : {n : ℕ} → n ≡ first_refusal (merger_checks cs tri (length out) (length lens)) → (merger cs tri out lens).number ≡ n
+  number_is is = merger-number cs tri out lens ∙ sym is
 
-    pub refused : n ≢ 0 → Promise cs tri out lens (record { number = n; count = 0 }) out lens
-    refused d =
-        promised (record { number = n; count = 0 }) out lens
-        (merger_refused cs tri out lens (λ e. d (sym number_is ∙ e)) ∙ ap (λ m. record { number = m; count = 0; indices = out; lengths = lens }) number_is)
+  pub refused : (n : ℕ) → n ≡ first_refusal (merger_checks cs tri (length out) (length lens)) → n ≢ 0 → Promise cs tri out lens (record { number = n; count = 0 }) out lens
+  refused n is d =
+      promised (record { number = n; count = 0 }) out lens
+      (merger_refused cs tri out lens (λ e. d (sym (number_is is) ∙ e)) ∙ ap (λ m. record { number = m; count = 0; indices = out; lengths = lens }) (number_is is))
 
-    pub merged : n ≡ 0 → (count : ℕ) (out' lens' : List ℕ) → Written pieces out lens count out' lens' → Promise cs tri out lens (record { number = 0; count = count }) out' lens'
-    merged e count out' lens' w =
-        rw (w.count, w.indices_are, w.lengths_are) (promised (record { number = 0; count = length pieces }) (over (flatten pieces) out) (over (map length pieces) lens) (merger-answered cs tri out lens (number_is ∙ e)))
+  pub merged :
+      0 ≡ first_refusal (merger_checks cs tri (length out) (length lens)) → (count : ℕ) (out' lens' : List ℕ) → Written pieces out lens count out' lens'
+      → Promise cs tri out lens (record { number = 0; count = count }) out' lens'
+  merged is count out' lens' w =
+      rw (w.count, w.indices_are, w.lengths_are) (promised (record { number = 0; count = length pieces }) (over (flatten pieces) out) (over (map length pieces) lens) (merger-answered cs tri out lens (number_is is)))
 
 -- ---- two results that the promise allows are equal
 

@@ -1,4 +1,3 @@
-pub mod Ranges
 pub mod Outputs
 pub mod Merging
 pub mod Entry

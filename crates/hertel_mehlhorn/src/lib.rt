@@ -1,57 +1,47 @@
 // The merger: after the crate's src/transformation/hertel_mehlhorn.rs.
 #![tactic(auto)]
 
-ghost use Rattle.std.specs.Prelude.{◌≡◌, ◌/◌, ◌%◌, ◌≤◌, length};
+ghost use Rattle.std.specs.Prelude.{◌≡◌, ◌/◌, ◌%◌, ◌≤◌, ◌<◌, length, IfOk};
+ghost use Rattle.algebra.specs.Lists.{Each};
 ghost use Rattle.rules.specs.Limits.{most_points, most_triangles, most_indices};
-ghost use Rattle.rules.specs.Grid.{points_of};
 ghost use Rattle.rules.specs.Layout.{triples};
 ghost use Rattle.rules.specs.Merge.{may_join, merge as merge_of};
 ghost use Rattle.rules.specs.Refusals.{first_refusal, out_of_range, before_triangles, merger_checks};
-ghost use Rattle.grid.specs.Points.{Known};
+ghost use Rattle.entries.specs.Refusals.{refused, answer_of};
+ghost use Rattle.grid.specs.Listed.{listed};
 ghost use Rattle.hertel_mehlhorn.specs.Promise.{Written, Promise};
 
-use entries::{Answer, MOST_POINTS, MOST_TRIANGLES, wide};
-use grid::outline::outline_refusal;
+use entries::{MOST_POINTS, MOST_TRIANGLES, Refusal};
+use grid::points::Points;
 use joins::grow;
-use joins::ring::{no_places, no_queue, write_ring};
-use pieces::{no_edges, no_eights, read_triangles};
+use joins::queue::Queue;
+use joins::ring::Ring;
+use pieces::Pieces;
 
 // The merge of the given triangles, three indices each: the pieces one behind the other in `indices`, and their lengths in
 // `lengths`. Each is written when it is finished. Answers the number of pieces.
-fn merge(coords: &[f32], triangles: &[u32], indices: &mut [u32], lengths: &mut [u32]) -> usize
-    requires known { Known coords.now triangles.now × (length (points_of coords.now) ≤ most_points) }
-    requires triangles_len { (length triangles.now % 3 ≡ 0) × (length triangles.now ≤ most_indices) }
-    requires triangles_in_bounds { (length triangles.now ≤ length indices.old) × (length triangles.now / 3 ≤ length lengths.old) }
-    ensures written { Written (merge_of (may_join (points_of coords.now)) (triples triangles.now)) indices.old lengths.old result indices.new lengths.new }
-    ensures upper_bound { result ≤ most_triangles }
+fn merge(points: &Points, triangles: &[u32], indices: &mut [u32], lengths: &mut [u32]) -> usize
+    requires points { length (listed points.now) ≤ most_points }
+    requires below { Each (λ i. i < length (listed points.now)) triangles.now }
+    requires whole { length triangles.now % 3 ≡ 0 }
+    requires few { length triangles.now ≤ most_indices }
+    requires room { length triangles.now ≤ length indices.old }
+    requires places { length triangles.now / 3 ≤ length lengths.old }
+    ensures written { Written (merge_of (may_join (listed points.now)) (triples triangles.now)) indices.old lengths.old result indices.new lengths.new }
+    ensures few { result ≤ most_triangles }
 {
-    let mut edges = no_edges();
-    let mut eights = no_eights();
-    read_triangles(triangles, &mut edges, &mut eights);
-    let mut vert = no_places();
-    let mut succ = no_places();
-    let mut pred = no_places();
-    let mut queue = no_queue();
-    let mut count = triangles.len() / 3;
-    let mut a = 0;
-    let mut w = 0;
-    while a < count {
-        let piece = grow(
-            coords,
-            &mut edges,
-            &mut eights,
-            &mut vert,
-            &mut succ,
-            &mut pred,
-            &mut queue,
-            a,
-            count,
-        );
-        write_ring(&vert, &succ, piece.start, piece.len, &mut indices[w..]);
-        lengths[a] = piece.len as u32;
-        w += piece.len;
-        count = piece.count;
-        a += 1;
+    let mut later = Pieces::new();
+    later.read(triangles);
+    let mut ring = Ring::new();
+    let mut queue = Queue::new();
+    let mut count = 0;
+    let mut end = 0;
+    while let Some(first) = later.take_first() {
+        grow(points, first, &mut later, &mut ring, &mut queue);
+        ring.write(&mut indices[end..]);
+        lengths[count] = ring.len as u32;
+        end += ring.len;
+        count += 1;
     }
     count
 }
@@ -60,52 +50,42 @@ fn merge(coords: &[f32], triangles: &[u32], indices: &mut [u32], lengths: &mut [
 fn out_of_range(triangles: &[u32], n: usize) -> bool
     ensures { result ≡ out_of_range n triangles.now }
 {
-    let mut i = 0;
-    while i < triangles.len() {
-        if n <= wide(triangles[i]) {
-            return true;
-        }
-        i += 1;
-    }
-    false
+    triangles.iter().any(|i| n <= *i as usize)
 }
 
-// The number of the first refusal that applies before the triangles are looked at, of which there are as many indices, and 0 where
-// none does.
-pub fn early_refusal(coords: &[f32], indices: usize) -> u32
-    ensures { result ≡ first_refusal (before_triangles coords.now indices) }
+// The refusals that need no look at the triangles, of which there are as many indices.
+pub fn check_before_triangles(coords: &[f32], indices: usize) -> Result<Points<'_>, Refusal>
+    ensures number { refused result ≡ first_refusal (before_triangles coords.now indices) }
+    ensures same { IfOk result (λ points. points.coords.now ≡ coords.now) }
 {
-    let number = outline_refusal(0, MOST_POINTS, coords);
-    if number != 0 {
-        return number;
-    }
+    let points = Points::new(0, MOST_POINTS, coords)?;
     if indices % 3 != 0 {
-        return 8;
+        return Err(Refusal::NotTriples);
     }
     if MOST_TRIANGLES < indices / 3 {
-        return 10;
+        return Err(Refusal::TooManyTriangles);
     }
-    0
+    Ok(points)
 }
 
-// The number of the first refusal that applies, and 0 where none does: for room for indices and places for lengths.
-fn refusal(coords: &[f32], triangles: &[u32], room: usize, places: usize) -> u32
-    ensures { result ≡ first_refusal (merger_checks coords.now triangles.now room places) }
+// All of them: for room for indices and places for lengths.
+fn check<'a>(
+    coords: &'a [f32],
+    triangles: &[u32],
+    room: usize,
+    places: usize,
+) -> Result<Points<'a>, Refusal>
+    ensures number { refused result ≡ first_refusal (merger_checks coords.now triangles.now room places) }
+    ensures same { IfOk result (λ points. points.coords.now ≡ coords.now) }
 {
-    let number = early_refusal(coords, triangles.len());
-    if number != 0 {
-        return number;
+    let points = check_before_triangles(coords, triangles.len())?;
+    if out_of_range(triangles, points.count()) {
+        return Err(Refusal::NoSuchPoint);
     }
-    if out_of_range(triangles, coords.len() / 2) {
-        return 9;
+    if room < triangles.len() || places < triangles.len() / 3 {
+        return Err(Refusal::TooLittleRoom);
     }
-    if room < triangles.len() {
-        return 6;
-    }
-    if places < triangles.len() / 3 {
-        return 6;
-    }
-    0
+    Ok(points)
 }
 
 // Merges triangles into convex pieces where no corner of a join turns right.
@@ -114,16 +94,9 @@ pub fn hertel_mehlhorn_idx(
     triangles: &[u32],
     indices: &mut [u32],
     lengths: &mut [u32],
-) -> Answer
-    ensures { Promise coords.now triangles.now indices.old lengths.old result indices.new lengths.new }
+) -> Result<u32, Refusal>
+    ensures { Promise coords.now triangles.now indices.old lengths.old (answer_of result) indices.new lengths.new }
 {
-    let number = refusal(coords, triangles, indices.len(), lengths.len());
-    if number != 0 {
-        return Answer { number, count: 0 };
-    }
-    let count = merge(coords, triangles, indices, lengths);
-    Answer {
-        number: 0,
-        count: count as u32,
-    }
+    let points = check(coords, triangles, indices.len(), lengths.len())?;
+    Ok(merge(&points, triangles, indices, lengths) as u32)
 }

@@ -1,4 +1,4 @@
-pub mod Corners
-pub mod Places
-pub mod Growing
+pub mod Round
+pub mod Turns
 pub mod Writing
+pub mod Growing

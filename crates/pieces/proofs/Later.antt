@@ -8,11 +8,11 @@ use mathlib.Core.List.{List, [], ◌∷◌}
 use lib.Bits.{bit_or}
 use native.Mathlib.Nat.{lt_of_not-le}
 use native.Mathlib.Decide.{ℕ_discrete}
-use lib.ListN.{length, get_or, set, take, length-set, length-take}
+use lib.ListN.{length, get_or, set, length-set, length-take}
 use lib.Seq.{get_or-set_same, get_or-set_other, get_or-take, ext_get_or}
 use Rattle.algebra.specs.Lists.{Each, end, ◌&◌}
 use Rattle.algebra.proofs.Lists.{each_imp}
-use Rattle.pieces.specs.Pieces.{start_of, end_of, piece_at, pieces_from, later, put_piece, moved, Shown, show, shows, Piece, Low, Lie}
+use Rattle.pieces.specs.Pieces.{start_of, end_of, piece_at, pieces_from, later, put_piece, moved, moved_shows, swap_removed, Shown, show, shows, Piece, Low, Lie}
 use Rattle.algebra.proofs.Bits.{has_left, has_right, has_one}
 
 -- ---- as a list
@@ -27,6 +27,9 @@ unfolding pieces_from
 from_at edges k zero i h = absurd (omega arith)
 from_at edges k (suc n) zero h = let e : k + 0 ≡ k = omega arith in rw e
 from_at edges k (suc n) (suc i) h = let e : suc k + i ≡ k + suc i = omega arith in from_at edges (suc k) n i (omega arith) ∙ ap (piece_at edges) e
+
+pub later_length : (edges : List ℕ) (from count : ℕ) → length (later edges from count) ≡ count - from
+later_length edges from count = length_from edges from (count - from)
 
 -- the first, and those behind it
 pub later_first : (edges : List ℕ) (a count : ℕ) → a < count → later edges a count ≡ piece_at edges a ∷ later edges (a + 1) count
@@ -187,42 +190,49 @@ module _ (edges eights : List ℕ) (k x y z : ℕ) (edges_size : length edges �
           below : (j : ℕ) → j < count' → j ≢ k → j < count
           below j i q = lt_of_not-le λ b. q (omega (arith, last (omega arith)))
 
--- ---- the last piece in the place of piece b
+-- ---- the last piece in the place of another
 
-module _ (edges eights : List ℕ) (from b last : ℕ) (l : Lie edges eights from (last + 1)) (start : from ≤ b) (stop : b ≤ last) where
-  pub lie-moved : Lie (moved edges b last) (shows eights b (get_or edges (3 * last) 0) (get_or edges (3 * last + 1) 0) (get_or edges (3 * last + 2) 0)) from last
-  lie-moved =
+module _ (edges eights : List ℕ) (from count place : ℕ) (l : Lie edges eights from count) (there : from + place < count) where
+  abbrev last : ℕ
+  last = count - 1
+
+  pub lie_moved : Lie (moved edges (from + place) last) (moved_shows edges eights (from + place) last) from last
+  lie_moved =
       let p = l.each last (omega arith) (omega arith) in
-      lie_put edges eights b _ _ _ l.edges_size l.eights_size (omega (arith, l.few)) p.first p.second p.third from (last + 1) last l (omega (arith, l.few)) (omega arith) (λ h. absurd (omega arith))
+      lie_put edges eights (from + place) _ _ _ l.edges_size l.eights_size (omega (arith, l.few)) p.first p.second p.third from count last l (omega (arith, l.few)) (omega arith) (λ h. absurd (omega arith))
+
+  abbrev pieces : List (List ℕ)
+  pieces = later edges from count
 
   abbrev mover : List ℕ
-  mover = get_or (later edges from (last + 1)) (last - from) []
+  mover = get_or pieces (length pieces - 1) []
 
-  pub moved_is : later (moved edges b last) from last ≡ take (last - from) (set (later edges from (last + 1)) (b - from) mover)
-  moved_is = ext_get_or [] _ _ (length_from (moved edges b last) from (last - from) ∙ sym size) each_at
+  pub moved_is : later (moved edges (from + place) last) from last ≡ swap_removed place pieces
+  moved_is = ext_get_or [] _ _ (length_from (moved edges (from + place) last) from (last - from) ∙ sym size) each_at
     where
-      n : length (later edges from (last + 1)) ≡ last + 1 - from
-      n = length_from edges from (last + 1 - from)
+      n : length pieces ≡ count - from
+      n = length_from edges from (count - from)
 
-      size : length (take (last - from) (set (later edges from (last + 1)) (b - from) mover)) ≡ last - from
-      size = rw (length-take, length-set, n) (omega arith)
+      size : length (swap_removed place pieces) ≡ last - from
+      size = rw (length-take, length-set) (omega (arith, n))
 
-      behind : (i : ℕ) → from + i ≡ b → piece_at (moved edges b last) (from + i) ≡ mover
-      behind i q =
-          let e : from + (last - from) ≡ last = omega arith in
-          ap (piece_at (moved edges b last)) q
-          ∙ put_piece_lem edges b _ _ _ (omega (arith, l.edges_size, l.few))
-          ∙ sym (from_at edges from (last + 1 - from) (last - from) (omega arith) ∙ ap (piece_at edges) e)
+      mover_is : mover ≡ piece_at edges last
+      mover_is =
+          let e : from + (length pieces - 1) ≡ last = omega (arith, n) in
+          from_at edges from (count - from) (length pieces - 1) (omega (arith, n)) ∙ ap (piece_at edges) e
 
-      here : (i : ℕ) → i < last - from → Dec (from + i ≡ b) → piece_at (moved edges b last) (from + i) ≡ get_or (set (later edges from (last + 1)) (b - from) mover) i []
-      here i h (yes q) =
-          let e : b - from ≡ i = omega arith in
-          behind i q ∙ rw e (sym (get_or-set_same (later edges from (last + 1)) i mover [] (omega (arith, n))))
-      here i h (no q) =
-          other-piece edges b _ _ _ (from + i) q
-          ∙ sym (get_or-set_other (later edges from (last + 1)) (b - from) i mover [] (λ e. q (omega arith)) ∙ from_at edges from (last + 1 - from) i (omega arith))
+      at_place : (i : ℕ) → i < last - from → Dec (i ≡ place) → piece_at (moved edges (from + place) last) (from + i) ≡ get_or (set pieces place mover) i []
+      at_place i h (yes q) =
+          rw q (put_piece_lem edges (from + place) _ _ _ (omega (arith, l.edges_size, l.few)) ∙ sym mover_is ∙ sym (get_or-set_same pieces place mover [] (omega (arith, n))))
+      at_place i h (no q) =
+          other-piece edges (from + place) _ _ _ (from + i) (λ e. q (omega arith))
+          ∙ sym (get_or-set_other pieces place i mover [] q ∙ from_at edges from (count - from) i (omega arith))
 
-      each_at : (i : ℕ) → i < length (later (moved edges b last) from last) → get_or (later (moved edges b last) from last) i [] ≡ get_or (take (last - from) (set (later edges from (last + 1)) (b - from) mover)) i []
+      each_at : (i : ℕ) → i < length (later (moved edges (from + place) last) from last) → get_or (later (moved edges (from + place) last) from last) i [] ≡ get_or (swap_removed place pieces) i []
       each_at i h =
-          let k : i < last - from = omega (arith, length_from (moved edges b last) from (last - from)) in
-          from_at (moved edges b last) from (last - from) i k ∙ here i k (ℕ_discrete (from + i) b) ∙ sym (get_or-take (last - from) (set (later edges from (last + 1)) (b - from) mover) i [] k)
+          let k : i < last - from = omega (arith, length_from (moved edges (from + place) last) from (last - from)) in
+          let m : i < length pieces - 1 = omega (arith, n) in
+          from_at (moved edges (from + place) last) from (last - from) i k ∙ at_place i k (ℕ_discrete i place) ∙ sym (get_or-take (length pieces - 1) (set pieces place mover) i [] m)
+
+pub length_swap_removed : (place : ℕ) (pieces : List (List ℕ)) → length (swap_removed place pieces) ≡ length pieces - 1
+length_swap_removed place pieces = length-take (length pieces - 1) _ ∙ rw length-set (omega arith)

@@ -7,6 +7,8 @@ use mathlib.Core.Path.{◌≡◌, refl, sym, ◌∙◌, ap, subst}
 use mathlib.Core.List.{List, [], ◌∷◌}
 use lib.ListN.{length, get_or}
 use lib.Seq.{ext_get_or}
+use Rattle.algebra.specs.Lists.{Each}
+use Rattle.algebra.proofs.Lists.{each_at}
 use Rattle.rules.specs.Layout.{triples}
 use Rattle.pieces.specs.Pieces.{edge_of, start_of, end_of, piece_at, later, put_piece, shows, Lie}
 use Rattle.pieces.proofs.Later.{length_from, from_at, three, other-piece, put_piece_lem, lie_put}
@@ -15,12 +17,12 @@ use Rattle.pieces.proofs.Later.{length_from, from_at, three, other-piece, put_pi
 abbrev pub triangle_at : List ℕ → ℕ → List ℕ
 triangle_at l k = get_or l (3 * k) 0 ∷ get_or l (3 * k + 1) 0 ∷ get_or l (3 * k + 2) 0 ∷ []
 
-length-triples : (l : List ℕ) → length l % 3 ≡ 0 → length (triples l) ≡ length l / 3
+pub length_triples : (l : List ℕ) → length l % 3 ≡ 0 → length (triples l) ≡ length l / 3
 unfolding triples
-length-triples [] h = refl
-length-triples (a ∷ []) h = absurd (omega arith)
-length-triples (a ∷ b ∷ []) h = absurd (omega arith)
-length-triples (a ∷ b ∷ c ∷ l) h = let k : length l % 3 ≡ 0 = omega arith in omega (arith, length-triples l k)
+length_triples [] h = refl
+length_triples (a ∷ []) h = absurd (omega arith)
+length_triples (a ∷ b ∷ []) h = absurd (omega arith)
+length_triples (a ∷ b ∷ c ∷ l) h = let k : length l % 3 ≡ 0 = omega arith in omega (arith, length_triples l k)
 
 triples-at : (l : List ℕ) (k : ℕ) → 3 * k + 2 < length l → get_or (triples l) k [] ≡ triangle_at l k
 unfolding triples
@@ -53,10 +55,12 @@ end_is : (s e : ℕ) → e < 512 → end_of (edge_of s e) ≡ e
 end_is s e h = omega arith
 
 pub read_more :
-    (triangles edges eights : List ℕ) (k : ℕ) → Read triangles edges eights k → k < 510 → (p q r : ℕ) → p < 512 → q < 512 → r < 512
-    → p ≡ get_or triangles (3 * k) 0 → q ≡ get_or triangles (3 * k + 1) 0 → r ≡ get_or triangles (3 * k + 2) 0
-    → Read triangles (put_piece edges k (edge_of p q) (edge_of q r) (edge_of r p)) (shows eights k (edge_of p q) (edge_of q r) (edge_of r p)) (k + 1)
-read_more triangles edges eights k d low p q r p-low q-low r-low is-p is-q is-r = record {
+    (triangles edges eights : List ℕ) (k : ℕ) → Read triangles edges eights k → k < 510 → Each (λ i. i < 512) triangles → 3 * k + 2 < length triangles
+    → (let p = get_or triangles (3 * k) 0 in
+    let q = get_or triangles (3 * k + 1) 0 in
+    let r = get_or triangles (3 * k + 2) 0 in
+    Read triangles (put_piece edges k (edge_of p q) (edge_of q r) (edge_of r p)) (shows eights k (edge_of p q) (edge_of q r) (edge_of r p)) (k + 1))
+read_more triangles edges eights k d low below there = record {
   lie =
       lie_put edges eights k x y z d.lie.edges_size d.lie.eights_size (omega arith)
       (end_is p q q-low ∙ sym (start_is q r r-low)) (end_is q r r-low ∙ sym (start_is r p p-low)) (end_is r p p-low ∙ sym (start_is p q q-low))
@@ -64,6 +68,24 @@ read_more triangles edges eights k d low p q r p-low q-low r-low is-p is-q is-r 
   same = λ i h. go i h (ℕ_discrete i k);
 }
   where
+    p : ℕ
+    p = get_or triangles (3 * k) 0
+
+    q : ℕ
+    q = get_or triangles (3 * k + 1) 0
+
+    r : ℕ
+    r = get_or triangles (3 * k + 2) 0
+
+    p-low : p < 512
+    p-low = each_at 0 triangles (3 * k) (omega arith) below
+
+    q-low : q < 512
+    q-low = each_at 0 triangles (3 * k + 1) (omega arith) below
+
+    r-low : r < 512
+    r-low = each_at 0 triangles (3 * k + 2) (omega arith) below
+
     x : ℕ
     x = edge_of p q
 
@@ -76,12 +98,12 @@ read_more triangles edges eights k d low p q r p-low q-low r-low is-p is-q is-r 
     go : (i : ℕ) → i < k + 1 → Dec (i ≡ k) → piece_at (put_piece edges k x y z) i ≡ triangle_at triangles i
     go i h (yes e) =
         subst (λ (j : ℕ). piece_at (put_piece edges k x y z) j ≡ triangle_at triangles j) (sym e)
-        (put_piece_lem edges k x y z (omega (arith, d.lie.edges_size)) ∙ three (start_is p q q-low ∙ is-p) (start_is q r r-low ∙ is-q) (start_is r p p-low ∙ is-r))
+        (put_piece_lem edges k x y z (omega (arith, d.lie.edges_size)) ∙ three (start_is p q q-low) (start_is q r r-low) (start_is r p p-low))
     go i h (no e) = other-piece edges k x y z i e ∙ d.same i (lt_of_not-le λ b. e (omega arith))
 
 pub read_all : (triangles edges eights : List ℕ) (k : ℕ) → Read triangles edges eights k → length triangles % 3 ≡ 0 → k ≡ length triangles / 3 → later edges 0 k ≡ triples triangles
 read_all triangles edges eights k d whole is =
-    ext_get_or [] (later edges 0 k) (triples triangles) (length_from edges 0 (k - 0) ∙ omega (arith, length-triples triangles whole)) λ i h. at i (omega (arith, length_from edges 0 (k - 0)))
+    ext_get_or [] (later edges 0 k) (triples triangles) (length_from edges 0 (k - 0) ∙ omega (arith, length_triples triangles whole)) λ i h. at i (omega (arith, length_from edges 0 (k - 0)))
   where
     at : (i : ℕ) → i < k → get_or (later edges 0 k) i [] ≡ get_or (triples triangles) i []
     at i h =

@@ -1,5 +1,5 @@
 -- The search for the piece that holds an edge: which eights it may skip, what it has passed, and what it finds.
-use Prim.Native.Nat.{ℕ, zero, suc, ◌+◌, ◌-◌, ◌*◌, ◌/◌, ◌%◌, ◌^◌, ◌≤◌, ◌<◌, min, max}
+use Prim.Native.Nat.{ℕ, zero, suc, ◌+◌, ◌-◌, ◌*◌, ◌/◌, ◌%◌, ◌^◌, ◌≤◌, ◌<◌, min}
 use native.Mathlib.Omega.{arith}
 use native.Mathlib.Decide.{ℕ_discrete}
 use mathlib.Core.Path.{◌≡◌, refl, sym, ◌∙◌, ap, subst}
@@ -8,23 +8,22 @@ use native.Mathlib.Nat.{lt_of_not-le}
 use mathlib.Core.Bool.{Bool, true, false, cond}
 use mathlib.Core.List.{List, [], ◌∷◌}
 use mathlib.Core.Option.{none, some}
+use Rattle.std.specs.Prelude.{None, Some}
 use lib.Bits.{bit_and}
 use lib.Pow.{shr_lt, shr-shr}
 use lib.Count.{count_trailing_zeros}
 use lib.Dec.{eqb}
-use lib.ListN.{get_or, set, take}
+use lib.ListN.{length, get_or}
 use Rattle.algebra.specs.Lists.{Each, end, ◌&◌, first}
 use Rattle.algebra.specs.Rings.{rotations}
 use Rattle.algebra.proofs.Equal.{eqb_same, eqb-true, and_true_l, and_true_r}
 use Rattle.rules.specs.Merge.{follows, mate}
 use Rattle.rules.proofs.Queues.{Apart}
 use Rattle.rules.proofs.QueueMates.{runs, in_triangle_lem, mate-nowhere, mate-at}
-use Rattle.pieces.specs.Pieces.{edge_of, start_of, end_of, piece_at, later, moved, Shown, Piece, Lie, Behind, Mated}
-use Rattle.pieces.specs.declared.Mate.{Mate}
-use Rattle.pieces.specs.declared.Mate.TheVariants.{Nobody, Is}
+use Rattle.pieces.specs.Pieces.{edge_of, start_of, end_of, piece_at, later, swap_removed, Shown, Piece, Lie, Within, Mated}
 use Rattle.algebra.specs.Bits.{Has}
 use Rattle.algebra.proofs.Bits.{has_both, none_left, skipped_bit, trailing_below}
-use Rattle.pieces.proofs.Later.{length_from, from_at, moved_is}
+use Rattle.pieces.proofs.Later.{length_from, from_at}
 
 -- of the edges of the later pieces, none before place n is the one that is looked for
 pub record Passed (edges : List ℕ) (want from count n : ℕ) : Type 0 where
@@ -37,69 +36,33 @@ module _ {edges : List ℕ} {want from count : ℕ} where
   passed_less : (n m : ℕ) → Passed edges want from count n → ((i : ℕ) → 3 * from ≤ i → i < 3 * count → i < m → i < n) → Passed edges want from count m
   passed_less n m p f = record { not_at = λ i h l k e. p.not_at i h l (f i h l k) e }
 
-  -- up to the first piece of eight g, or up to the first later piece
-  pub passed_enter : (g : ℕ) → Passed edges want from count (24 * g) → Passed edges want from count (3 * max (8 * g) from + 0)
-  passed_enter g p = passed_less (24 * g) (3 * max (8 * g) from + 0) p (λ i h l k. omega arith)
-
-  -- and up to its last
-  passed_leave : (g stop b : ℕ) → Passed edges want from count (24 * g) → Behind edges want count g stop → stop ≤ b → Passed edges want from count (3 * b + 0) → Passed edges want from count (24 * (g + 1))
-  passed_leave g stop b before behind h p = record { not_at = λ i a l k e. go i a l k e (ℕ_discrete (min (24 * g) i) (24 * g)) (ℕ_discrete (min (3 * b) i) (3 * b)) }
+  -- up to where the edge stands in eight g
+  passed_at : (g at : ℕ) → Passed edges want from count (24 * g) → Within edges want g from count (Some at) → Passed edges want from count at
+  passed_at g at p w = record { not_at = λ i h l k e. go i h l k e (ℕ_discrete (min (24 * g) i) (24 * g)) }
     where
-      go : (i : ℕ) → 3 * from ≤ i → i < 3 * count → i < 24 * (g + 1) → get_or edges i 0 ≡ want → Dec (min (24 * g) i ≡ 24 * g) → Dec (min (3 * b) i ≡ 3 * b) → ⊥
-      go i a l k e (no q) d = before.not_at i a l (omega arith) e
-      go i a l k e (yes q) (no r) = p.not_at i a l (omega arith) e
-      go i a l k e (yes q) (yes r) = behind.not_at i (omega arith) (omega arith) l (omega arith) e
-
-  pub passed-piece : (b j : ℕ) → 3 ≤ j → Passed edges want from count (3 * b + j) → Passed edges want from count (3 * (b + 1) + 0)
-  passed-piece b j h p = passed_less (3 * b + j) (3 * (b + 1) + 0) p (λ i a l k. omega arith)
-
-  pub passed_edge : (b j : ℕ) → (get_or edges (3 * b + j) 0 ≡ want → ⊥) → Passed edges want from count (3 * b + j) → Passed edges want from count (3 * b + (j + 1))
-  passed_edge b j not p = record { not_at = λ i h l k e. go i h l k e (ℕ_discrete i (3 * b + j)) }
-    where
-      go : (i : ℕ) → 3 * from ≤ i → i < 3 * count → i < 3 * b + (j + 1) → get_or edges i 0 ≡ want → Dec (i ≡ 3 * b + j) → ⊥
-      go i h l k e (yes q) = not (rw q at e)
+      go : (i : ℕ) → 3 * from ≤ i → i < 3 * count → i < at → get_or edges i 0 ≡ want → Dec (min (24 * g) i ≡ 24 * g) → ⊥
+      go i h l k e (yes q) = w.5 i (omega arith) h k e
       go i h l k e (no q) = p.not_at i h l (omega arith) e
 
-pub behind_none : (edges : List ℕ) (want count g : ℕ) → ((i : ℕ) → i < 24 → get_or edges (24 * g + i) 0 ≡ want → ⊥) → Behind edges want count g 0
-behind_none edges want count g f = record { not_at = λ i a h l b e. go i a h e }
-  where
-    go : (i : ℕ) → 24 * g ≤ i → i < 24 * g + 24 → get_or edges i 0 ≡ want → ⊥
-    go i a h e = let w : 24 * g + (i - 24 * g) ≡ i = omega arith in f (i - 24 * g) (omega arith) (rw w e)
+  -- and behind it, where it does not stand there
+  passed_eight : (g : ℕ) → Passed edges want from count (24 * g) → Within edges want g from count None → Passed edges want from count (24 * (g + 1))
+  passed_eight g p w = record { not_at = λ i h l k e. go i h l k e (ℕ_discrete (min (24 * g) i) (24 * g)) }
+    where
+      go : (i : ℕ) → 3 * from ≤ i → i < 3 * count → i < 24 * (g + 1) → get_or edges i 0 ≡ want → Dec (min (24 * g) i ≡ 24 * g) → ⊥
+      go i h l k e (yes q) = w i (omega arith) (omega arith) h l e
+      go i h l k e (no q) = p.not_at i h l (omega arith) e
 
 -- from eight g on the search goes on: what is left of the points' words is shifted down to it
-pub record Seeking (edges eights : List ℕ) (from count e s want : ℕ) (found : Mate) (g word : ℕ) : Type 0 where
+pub record Seeking (edges eights : List ℕ) (from count e s want g word : ℕ) : Type 0 where
   pub want_is : want ≡ edge_of e s
-  pub nobody : found ≡ Nobody
   pub word_is : word ≡ bit_and (get_or eights e 0) (get_or eights s 0) / 2 ^ g
   pub small : word < 2 ^ (64 - g)
   pub few : g ≤ 64
   pub passed : Passed edges (edge_of e s) from count (24 * g)
 
--- and at corner j of piece b of that eight
-pub record Within (edges eights : List ℕ) (from count e s want : ℕ) (found : Mate) (g word stop b j : ℕ) : Type 0 where
-  pub seeking : Seeking edges eights from count e s want found g word
-  pub in_range : g < 64
-  pub within : stop ≤ count
-  pub behind : Behind edges (edge_of e s) count g stop
-  pub first : from ≤ b
-  pub passed_here : Passed edges (edge_of e s) from count (3 * b + j)
-
--- what the search may lean on
-pub record Asked (edges eights : List ℕ) (from count e s : ℕ) : Type 0 where
-  pub lie : Lie edges eights from count
-  pub before-end : from ≤ count
-  pub e_low : e < 512
-  pub s_low : s < 512
-
-module _ {edges eights : List ℕ} {from count e s : ℕ} (asked : Asked edges eights from count e s) where
+module _ {edges eights : List ℕ} {from count e s : ℕ} (known : Lie edges eights from count × (from ≤ count)) (low : (e < 512) × (s < 512)) where
   lie : Lie edges eights from count
-  lie = asked.lie
-
-  e_low : e < 512
-  e_low = asked.e_low
-
-  s_low : s < 512
-  s_low = asked.s_low
+  lie = known.0
 
   -- ---- an eight that holds the edge holds both its points
 
@@ -196,80 +159,88 @@ module _ {edges eights : List ℕ} {from count e s : ℕ} (asked : Asked edges e
       subst (Apart e s) (sym (from_at edges from (count - from) i (omega arith)))
       (piece_apart (from + i) (lie.each (from + i) (omega arith) l) (λ r q. p.not_at (3 * (from + i) + r) (omega arith) (omega arith) (omega arith)))
 
-  found_none : (g : ℕ) → both / 2 ^ g ≡ 0 → Passed edges (edge_of e s) from count (24 * g) → Mated edges from count e s Nobody
+  abbrev pieces : List (List ℕ)
+  pieces = later edges from count
+
+  n : length pieces ≡ count - from
+  n = length_from edges from (count - from)
+
+  found_none : (g : ℕ) → both / 2 ^ g ≡ 0 → Passed edges (edge_of e s) from count (24 * g) → Mated pieces e s None
   unfolding Mated
   found_none g z p =
       let all : Passed edges (edge_of e s) from count (3 * count) = record { not_at = λ i h l k. passed-all g z p i h l } in
-      mate-nowhere e s (later edges from count) (λ i h. later_apart i (3 * count) all (omega (arith, length_from edges from (count - from))) (omega (arith, length_from edges from (count - from))))
+      mate-nowhere e s pieces (λ i h. later_apart i (3 * count) all (omega (arith, n)) (omega (arith, n)))
 
-  pub found_at :
-      (b j : ℕ) → from ≤ b → b < count → j < 3 → Passed edges (edge_of e s) from count (3 * b + j) → get_or edges (3 * b + j) 0 ≡ edge_of e s
-      → (third : ℕ) → third ≡ start_of (get_or edges (3 * b + (j + 2) % 3) 0) → Mated edges from count e s (Is b third)
+  found_at :
+      (at : ℕ) → 3 * from ≤ at → at < 3 * count → Passed edges (edge_of e s) from count at → get_or edges at 0 ≡ edge_of e s
+      → (third : ℕ) → third ≡ start_of (get_or edges (3 * (at / 3) + (at % 3 + 2) % 3) 0) → Mated pieces e s (Some (record { place = at / 3 - from; third = third }))
   unfolding Mated
-  found_at b j h l j-low p is third third_is = (h, l, rw (third_is, moved_list) found)
+  found_at at h l p is third third_is = (omega (arith, n), rw third_is found)
     where
-      w : from + (b - from) ≡ b
-      w = omega arith
+      b : ℕ
+      b = at / 3
 
-      v : count - 1 + 1 ≡ count
-      v = omega arith
+      place : from + (b - from) ≡ b
+      place = omega arith
 
-      moved_list : later (moved edges b (count - 1)) from (count - 1) ≡ take (count - 1 - from) (set (later edges from count) (b - from) (get_or (later edges from count) (count - 1 - from) []))
-      moved_list =
-          subst (λ (n : ℕ). later (moved edges b (count - 1)) from (count - 1) ≡ take (count - 1 - from) (set (later edges from n) (b - from) (get_or (later edges from n) (count - 1 - from) []))) v
-          (moved_is edges eights from b (count - 1) (rw v lie) h (omega arith))
+      split : 3 * b + at % 3 ≡ at
+      split = omega arith
 
-      here : first (follows e s) (rotations (get_or (later edges from count) (b - from) [])) ≡ some (start_of (get_or edges (3 * b + (j + 2) % 3) 0) ∷ [])
+      here : first (follows e s) (rotations (get_or pieces (b - from) [])) ≡ some (start_of (get_or edges (3 * b + (at % 3 + 2) % 3) 0) ∷ [])
       here =
-          ap (λ (t : List ℕ). first (follows e s) (rotations t)) (from_at edges from (count - from) (b - from) (omega arith) ∙ ap (piece_at edges) w)
-          ∙ piece-holds b (lie.each b h l) j j-low (λ r q. p.not_at (3 * b + r) (omega arith) (omega arith) (omega arith)) is
+          ap (λ (t : List ℕ). first (follows e s) (rotations t)) (from_at edges from (count - from) (b - from) (omega arith) ∙ ap (piece_at edges) place)
+          ∙ piece-holds b (lie.each b (omega arith) (omega arith)) (at % 3) (omega arith) (λ r q. p.not_at (3 * b + r) (omega arith) (omega arith) (omega arith)) (rw split is)
 
-      found : mate e s [] (later edges from count) ≡ some (record { piece = start_of (get_or edges (3 * b + (j + 2) % 3) 0) ∷ []; others = take (count - 1 - from) (set (later edges from count) (b - from) (get_or (later edges from count) (count - 1 - from) [])) })
+      found : mate e s [] pieces ≡ some (record { piece = start_of (get_or edges (3 * b + (at % 3 + 2) % 3) 0) ∷ []; others = swap_removed (b - from) pieces })
       found =
-          mate-at e s (later edges from count) (b - from) (count - 1 - from) (start_of (get_or edges (3 * b + (j + 2) % 3) 0) ∷ []) (omega (arith, length_from edges from (count - from))) (omega arith)
-          (λ i q. later_apart i (3 * b + j) p (omega arith) (omega arith)) here
+          mate-at e s pieces (b - from) (length pieces - 1) (start_of (get_or edges (3 * b + (at % 3 + 2) % 3) 0) ∷ []) (omega (arith, n)) (omega (arith, n))
+          (λ i q. later_apart i at p (omega arith) (omega arith)) here
 
   -- ---- the steps of the search
 
   module _ {want : ℕ} where
-    pub seek_first : want ≡ edge_of e s → {word : ℕ} → (word ≡ both) × (word < 2 ^ 64) → Seeking edges eights from count e s want Nobody (from / 8) (word / 2 ^ (from / 8))
+    pub seek_first : want ≡ edge_of e s → {word : ℕ} → (word ≡ both) × (word < 2 ^ 64) → Seeking edges eights from count e s want (from / 8) (word / 2 ^ (from / 8))
     seek_first is (word_is, fits) =
-        let low : from / 8 ≤ 64 = omega (arith, lie.few, asked.before-end) in
+        let low : from / 8 ≤ 64 = omega (arith, lie.few) in
         record {
           want_is = is;
-          nobody = refl;
           word_is = ap (λ (w : ℕ). w / 2 ^ (from / 8)) word_is;
           small = let w : 64 - from / 8 + from / 8 ≡ 64 = omega arith in shr_lt (64 - from / 8) (from / 8) (rw w fits);
           few = low;
           passed = passed_first;
         }
 
-    module _ {found : Mate} {g word : ℕ} (at : Seeking edges eights from count e s want found g word) where
+    module _ {g word : ℕ} (at : Seeking edges eights from count e s want g word) where
       pub skip_low : word ≢ 0 → (skip : ℕ) → skip ≡ count_trailing_zeros 64 word → g + skip < 64
       skip_low h skip is = omega (arith, trailing_below 64 (64 - g) word (pos h) at.small (omega arith), at.few)
         where
           pos : word ≢ 0 → 0 < word
           pos h = lt_of_not-le λ q. h (omega arith)
 
-      pub seek_skip : (skip : ℕ) → skip ≡ count_trailing_zeros 64 word → g + skip < 64 → Seeking edges eights from count e s want found (g + skip) (word / 2 ^ skip)
+      pub seek_skip : (skip : ℕ) → skip ≡ count_trailing_zeros 64 word → g + skip < 64 → Seeking edges eights from count e s want (g + skip) (word / 2 ^ skip)
       seek_skip skip is h = record {
         want_is = at.want_is;
-        nobody = at.nobody;
         word_is = ap (λ (w : ℕ). w / 2 ^ skip) at.word_is ∙ shr-shr both g skip;
         small = let e : 64 - (g + skip) + skip ≡ 64 - g = omega arith in shr_lt (64 - (g + skip)) skip (rw e at.small);
         few = omega arith;
         passed = subst (λ (n : ℕ). Passed edges (edge_of e s) from count (24 * (g + n))) (sym (is ∙ ap (count_trailing_zeros 64) at.word_is)) (passed_skip g at.passed);
       }
 
-      pub seek_next : (stop b : ℕ) → Behind edges (edge_of e s) count g stop → stop ≤ b → Passed edges (edge_of e s) from count (3 * b + 0) → g < 64 → Seeking edges eights from count e s want found (g + 1) (word / 2)
-      seek_next stop b behind left passed_here h = record {
+      pub seek_next : Within edges want g from count None → g < 64 → Seeking edges eights from count e s want (g + 1) (word / 2)
+      seek_next w h = record {
         want_is = at.want_is;
-        nobody = at.nobody;
         word_is = ap (λ (w : ℕ). w / 2) at.word_is ∙ shr-shr both g 1;
         small = let e : 64 - (g + 1) + 1 ≡ 64 - g = omega arith in shr_lt (64 - (g + 1)) 1 (rw e at.small);
         few = omega arith;
-        passed = passed_leave g stop b at.passed behind left passed_here;
+        passed = passed_eight g at.passed (rw at.want_is at w);
       }
 
-      pub seek_none : word ≡ 0 → Mated edges from count e s found
-      seek_none z = rw at.nobody (found_none g (sym at.word_is ∙ z) at.passed)
+      pub seek_none : word ≡ 0 → Mated pieces e s None
+      seek_none z = found_none g (sym at.word_is ∙ z) at.passed
+
+      pub seek_found :
+          (place : ℕ) → Within edges want g from count (Some place) → (third : ℕ) → third ≡ start_of (get_or edges (3 * (place / 3) + (place % 3 + 2) % 3) 0)
+          → Mated pieces e s (Some (record { place = place / 3 - from; third = third }))
+      seek_found place w third is =
+          let v : Within edges (edge_of e s) g from count (Some place) = rw at.want_is at w in
+          found_at place v.2 v.3 (passed_at g place at.passed v) v.4 third is

@@ -1,12 +1,11 @@
 -- The later pieces: triangles, each as three edges in a store, and for each point a word that shows in which eights of pieces it stands.
-use Rattle.std.specs.Prelude.{ℕ, zero, suc, ◌+◌, ◌-◌, ◌*◌, ◌/◌, ◌%◌, ◌^◌, ◌≤◌, ◌<◌, ◌≡◌, List, [], ◌∷◌, length, get_or, set}
+use Rattle.std.specs.Prelude.{ℕ, zero, suc, ◌+◌, ◌-◌, ◌*◌, ◌/◌, ◌%◌, ◌^◌, ◌≤◌, ◌<◌, ◌≡◌, List, [], ◌∷◌, length, get_or, set, take, Option, Some, None}
 use Rattle.std.proofs.Math.Option.{none, some}
 use Rattle.std.specs.Int.Bits.{bit_or}
 use Rattle.algebra.specs.Bits.{Has}
 use Rattle.algebra.specs.Lists.{Each}
 use Rattle.rules.specs.Merge.{mate}
 use Rattle.pieces.specs.declared.Mate.{Mate}
-use Rattle.pieces.specs.declared.Mate.TheVariants.{Nobody, Is}
 
 -- ---- an edge as one number: points are below 512
 
@@ -54,6 +53,10 @@ show eights v k = set eights v (bit_or (get_or eights v 0) (2 ^ (k / 8)))
 abbrev pub shows : List ℕ → ℕ → ℕ → ℕ → ℕ → List ℕ
 shows eights k x y z = show (show (show eights (start_of x) k) (start_of y) k) (start_of z) k
 
+-- where piece b becomes what piece `last` is
+abbrev pub moved_shows : List ℕ → List ℕ → ℕ → ℕ → List ℕ
+moved_shows edges eights b last = shows eights b (get_or edges (3 * last) 0) (get_or edges (3 * last + 1) 0) (get_or edges (3 * last + 2) 0)
+
 -- ---- what is known of them
 
 -- each edge of piece k ends where the next begins, and each of its points shows its eight
@@ -76,14 +79,28 @@ pub record Lie (edges eights : List ℕ) (from count : ℕ) : Type 0 where
   pub few : count ≤ 510
   pub each : (k : ℕ) → from ≤ k → k < count → Piece edges eights k
 
--- of the 24 edges of eight g, none from piece b on is the one that is looked for
-pub record Behind (edges : List ℕ) (want count g b : ℕ) : Type 0 where
-  pub not_at : (i : ℕ) → 24 * g ≤ i → i < 24 * g + 24 → i < 3 * count → 3 * b ≤ i → get_or edges i 0 ≡ want → ⊥
+-- where the edge that is looked for first stands among the 24 edges of eight g, of the pieces from number `from` on, where there are `count`
+abbrev pub Within : List ℕ → ℕ → ℕ → ℕ → ℕ → Option ℕ → Type 0
+Within edges want g from count None = (i : ℕ) → 24 * g ≤ i → i < 24 * g + 24 → 3 * from ≤ i → i < 3 * count → get_or edges i 0 ≡ want → ⊥
+Within edges want g from count (Some at) =
+    (24 * g ≤ at) × (at < 24 * g + 24) × (3 * from ≤ at) × (at < 3 * count) × (get_or edges at 0 ≡ want)
+    × ((i : ℕ) → 24 * g ≤ i → 3 * from ≤ i → i < at → get_or edges i 0 ≡ want → ⊥)
 
--- the mate of the edge s to e among the pieces from number `from` on: where it stands, and its third corner; the last piece then moves into its place
-unfoldable pub Mated : List ℕ → ℕ → ℕ → ℕ → ℕ → Mate → Type 0
-unfolding mate pieces_from put_piece
-Mated edges from count e s Nobody = mate e s [] (later edges from count) ≡ none
-Mated edges from count e s (Is piece third) =
-    (from ≤ piece) × (piece < count)
-    × (mate e s [] (later edges from count) ≡ some (record { piece = third ∷ []; others = later (moved edges piece (count - 1)) from (count - 1) }))
+-- ---- the list of pieces
+
+-- the first is taken out, where there is one
+abbrev pub Taken : List (List ℕ) → Option (List ℕ) → List (List ℕ) → Type 0
+Taken pieces None left = (pieces ≡ []) × (left ≡ [])
+Taken pieces (Some first) left = pieces ≡ first ∷ left
+
+-- the last moves into a place, as `swap_remove` fills a gap
+abbrev pub swap_removed : ℕ → List (List ℕ) → List (List ℕ)
+swap_removed place pieces = take (length pieces - 1) (set pieces place (get_or pieces (length pieces - 1) []))
+
+-- the mate of the edge s to e: at which place it stands, and its third corner; the last piece then moves there
+unfoldable pub Mated : List (List ℕ) → ℕ → ℕ → Option Mate → Type 0
+unfolding mate
+Mated pieces e s None = mate e s [] pieces ≡ none
+Mated pieces e s (Some m) =
+    (m.place < length pieces)
+    × (mate e s [] pieces ≡ some (record { piece = m.third ∷ []; others = swap_removed m.place pieces }))
