@@ -3,14 +3,17 @@ use Prim.Native.Nat.{ℕ, suc, ◌+◌, ◌≤◌, ◌<◌}
 use native.Mathlib.Omega.{arith}
 use native.Mathlib.Nat.{le_trans, lt_of_lt_of_le}
 use mathlib.Core.Path.{◌≡◌, refl, sym, ◌∙◌, ap, subst}
-use mathlib.Core.Bool.{true, false, not}
-use mathlib.Core.List.{List, [], ◌∷◌, ◌++◌, map}
-use borrow.Author.Tests.{lt-ltb}
-use lib.ListN.{length, take, length-append, length-map}
-use Rattle.algebra.specs.Lists.{Each, end, ◌&◌, any, count_from}
-use Rattle.algebra.proofs.Lists.{each_imp, each-front, each_back, each_tail, none_passes}
+use mathlib.Core.Bool.{false}
+use mathlib.Core.List.{List, [], ◌∷◌, ◌++◌, map, append-nil}
+use borrow.Author.Tests.{lt-ltb, le-ltb}
+use lib.ListN.{length, get_or, length-append, length-map}
+use Rattle.std.specs.Prelude.{Option, Some, None, MatchOption}
+use Rattle.std.specs.Option.{unwrap_or}
+use Rattle.algebra.specs.Lists.{Each, end, ◌&◌, count_from}
+use Rattle.algebra.proofs.Lists.{each_imp, each-front, each_back, each_tail}
+use Rattle.algebra.specs.Rings.{begun_at}
 use Rattle.algebra.proofs.Counting.{count-length}
-use Rattle.algebra.proofs.Equal.{impossible, not-true}
+use Rattle.algebra.proofs.Equal.{impossible}
 use Rattle.rules.specs.Limits.{most_points}
 use Rattle.rules.specs.Plane.{Pt, point}
 use Rattle.rules.specs.Hull.{normal, farthest, support, rightward, leftward, hull}
@@ -48,6 +51,10 @@ list_nil : {s : List ℕ} → Each (λ i. i < most_points) s → Each (λ x. unm
 list_nil end end = refl
 list_nil (◌&◌ {a = i} h hs) (e & es) = let q = lt-ltb i most_points h in impossible (cc)
 
+none_unmarked : (l : List ℕ) → ((k : ℕ) → k < length l → most_points ≤ get_or l k 0) → Each (λ x. unmarked x ≡ false) l
+none_unmarked [] h = end
+none_unmarked (x ∷ l) h = le-ltb x most_points (h 0 (omega arith)) & none_unmarked l (λ k j. h (suc k) (omega arith))
+
 settled_unseen : (facets : List Facet) → Low facets → Each (λ x. unmarked x ≡ false) (laid facets) → Each (λ f. f.seen ≡ []) facets
 settled_unseen [] low h = end
 settled_unseen (f ∷ l) (p & ps) h =
@@ -73,15 +80,21 @@ laid-length : (l : List Facet) → length (laid l) ≡ length (flat l)
 laid-length [] = ap length laid_nil
 laid-length (f ∷ l) = ap length (laid_cons f l) ∙ ap suc (length-append f.seen (laid l) ∙ ap (λ (n : ℕ). length f.seen + n) (laid-length l) ∙ sym (length-append f.seen (flat l)))
 
+-- ---- a ring begun at the facet that was found, or as it stands where none was
+
+begun_is : (ring turned : List ℕ) (o : Option ℕ) → MatchOption o (turned ≡ ring) (λ p. turned ≡ begun_at p ring) → begun_at (unwrap_or o 0) ring ≡ turned
+begun_is ring turned None found = append-nil ring ∙ sym found
+begun_is ring turned (Some p) found = sym found
+
 -- ---- from round to round
 
 abbrev pub once : ℕ → ℕ
 once i = 1
 
--- what stands in front of place m is a ring, and so many rounds from it is the last
-pub record Going (ps : List Pt) (store : List ℕ) (m left : ℕ) : Type 0 where
+-- a ring is laid, and so many rounds from it is the last
+pub record Going (ps : List Pt) (laid_ring : List ℕ) (left : ℕ) : Type 0 where
   pub facets : List Facet
-  pub is : take m store ≡ laid facets
+  pub is : laid_ring ≡ laid facets
   pub kept : Ring ps once left facets
   pub ends : rounds left ps facets ≡ last_ring ps
 
@@ -121,17 +134,17 @@ module _ (ps : List Pt) (few : length ps ≤ most_points) where
     first-room all a b e f g = rw (two-first all a b e f g) (ring-room (first_ring ps) first_kept)
 
     pub going_first :
-        (store all : List ℕ) (a b m : ℕ) → all ≡ count_from 0 (length ps) → a ≡ support ps rightward → b ≡ support ps leftward → take m store ≡ laid (two ps all a b a)
-        → Going ps store m (length all)
+        {ring : List ℕ} (all : List ℕ) (a b : ℕ) → all ≡ count_from 0 (length ps) → a ≡ support ps rightward → b ≡ support ps leftward → ring ≡ laid (two ps all a b a)
+        → Going ps ring (length all)
     unfolding last_ring
-    going_first store all a b m e f g t =
+    going_first all a b e f g t =
         let n : length all ≡ length ps = ap length e ∙ count-length 0 (length ps) in
         rw n (record { facets = first_ring ps; is = t ∙ ap laid (two-first all a b e f g); kept = first_kept; ends = refl })
 
   -- ---- one round
 
-  module _ {store : List ℕ} {m left : ℕ} (g : Going ps store m (suc left)) where
-    pub going_low : Low g.facets
+  module _ {ring : List ℕ} {left : ℕ} (g : Going ps ring (suc left)) where
+    going_low : Low g.facets
     going_low = ring_low g.kept
 
     abbrev turned : List Facet
@@ -144,16 +157,25 @@ module _ (ps : List Pt) (few : length ps ≤ most_points) where
     swept = sweep_round ps turned_kept.good
 
     -- the ring, begun at its first facet that no point sees, is ready to be swept
-    pub going_held : (part : List ℕ) → part ≡ laid turned → Held ps part turned
+    going_held : (part : List ℕ) → part ≡ laid turned → Held ps part turned
     going_held part e = record { is = e; sound = ring-sound turned_kept; fits = rw swept (ring-room (round ps turned) (ring_round ps turned_kept)) }
 
-    pub going_next : (store' : List ℕ) (m' : ℕ) → take m' store' ≡ laid (sweep_of ps turned) → Going ps store' m' left
+    -- what was found of the ring, and begun there
+    pub going_begun :
+        (o : Option ℕ) {start : ℕ} {looked read part : List ℕ} → looked ≡ ring → read ≡ ring → start ≡ unwrap_or o 0
+        → ((facets : List Facet) → Low facets → looked ≡ laid facets → MatchOption o (laid (begun [] facets) ≡ looked) (λ p. laid (begun [] facets) ≡ begun_at p looked))
+        → part ≡ begun_at start read → Held ps part turned
+    going_begun o e f s found is =
+        let at = rw e at (found g.facets going_low (e ∙ g.is)) in
+        going_held _ (is ∙ rw (s, f) (begun_is ring (laid turned) o at))
+
+    pub going_next : {next : List ℕ} → next ≡ laid (sweep_of ps turned) → Going ps next left
     unfolding rounds
-    going_next store' m' e = record { facets = round ps turned; is = e ∙ ap laid swept; kept = ring_round ps turned_kept; ends = g.ends }
+    going_next e = record { facets = round ps turned; is = e ∙ ap laid swept; kept = ring_round ps turned_kept; ends = g.ends }
 
   -- ---- at the end
 
-  module _ (off : on_one_line ps ≡ false) {store : List ℕ} {m left : ℕ} (g : Going ps store m left) (u : Each (λ f. f.seen ≡ []) g.facets) where
+  module _ (off : on_one_line ps ≡ false) {ring : List ℕ} {left : ℕ} (g : Going ps ring left) (u : Each (λ f. f.seen ≡ []) g.facets) where
     last_is : last_ring ps ≡ g.facets
     last_is = sym g.ends ∙ rounds-last ps left (unseen_good g.kept.good u)
       where
@@ -164,22 +186,21 @@ module _ (ps : List Pt) (few : length ps ≤ most_points) where
     hull_here : hull ps ≡ map from_of g.facets
     hull_here = hull_is ps off ∙ ap (map from_of) last_is
 
-    marks : take m store ≡ map (λ (f : Facet). mark_of f.from) g.facets
+    marks : ring ≡ map (λ (f : Facet). mark_of f.from) g.facets
     marks = g.is ∙ laid_marks u
 
-    pub going_marked : Each Marked (take m store)
+    pub going_marked : Each Marked ring
     going_marked = rw marks (all_marked g.facets)
 
-    pub going_hull : map corner_of (take m store) ≡ hull ps
+    pub going_hull : map corner_of ring ≡ hull ps
     going_hull = ap (map corner_of) marks ∙ corners-back g.facets ∙ sym hull_here
 
-    pub going_count : length (take m store) ≡ length (hull ps)
+    pub going_count : length ring ≡ length (hull ps)
     going_count = ap length marks ∙ length-map g.facets (λ (f : Facet). mark_of f.from) ∙ sym (length-map g.facets from_of) ∙ ap length (sym hull_here)
 
   -- all are marked, or no round is left
-  pub settled_none : {store : List ℕ} {m left : ℕ} (g : Going ps store m left) → not (any unmarked (take m store)) ≡ true → Each (λ f. f.seen ≡ []) g.facets
-  settled_none {store} {m} g e =
-      settled_unseen g.facets (ring_low g.kept) (rw g.is at (none_passes unmarked (take m store) (not-true (any unmarked (take m store)) e)))
+  pub settled_none : {ring : List ℕ} {left : ℕ} (g : Going ps ring left) → ((k : ℕ) → k < length ring → most_points ≤ get_or ring k 0) → Each (λ f. f.seen ≡ []) g.facets
+  settled_none {ring} g marked = settled_unseen g.facets (ring_low g.kept) (rw g.is at (none_unmarked ring marked))
 
-  pub rounds_none : {store : List ℕ} {m left : ℕ} (g : Going ps store m left) → left ≡ 0 → Each (λ f. f.seen ≡ []) g.facets
+  pub rounds_none : {ring : List ℕ} {left : ℕ} (g : Going ps ring left) → left ≡ 0 → Each (λ f. f.seen ≡ []) g.facets
   rounds_none g e = each_imp (λ f h. none_left ps (subst (λ (k : ℕ). Good ps k f) e h)) g.kept.good

@@ -3,65 +3,60 @@
 
 ghost use Rattle.std.specs.Prelude.{◌≡◌, false, ◌≤◌, length};
 ghost use Rattle.algebra.specs.Lists.{count_from};
-ghost use Rattle.rules.specs.Grid.{points_of};
 ghost use Rattle.rules.specs.Hull.{support, rightward, leftward};
-ghost use Rattle.rules.specs.Limits.{most_points};
-ghost use Rattle.rules.specs.Refusals.{off_grid, on_one_line};
+ghost use Rattle.rules.specs.Refusals.{on_one_line};
+ghost use Rattle.entries.specs.Refusals.{answer_of};
+ghost use Rattle.grid.specs.Listed.{listed};
 ghost use Rattle.convex_hull2.specs.Promise.{Written, Promise};
 
-use entries::{Answer, MOST_POINTS};
-use facets::{begin_at, first_unseen, lay_two, number_all, places, settled, sweep, write_corners};
-use grid::outline::outline_refusal;
-use seeing::{leftmost, on_one_line, rightmost};
+use entries::{MOST_POINTS, Refusal};
+use facets::cloud::Cloud;
+use facets::{begin_at, first_unseen, lay_two, settled, sweep, write_corners};
+use grid::points::Points;
+use seeing::chosen::Chosen;
+use seeing::ends;
+use seeing::row::Row;
 
-// Writes the hull of a cloud that is not on one line, from its rightmost point a and its leftmost b on. Answers the number of corners.
-fn walk(coords: &[f32], all: &[u16], a: usize, b: usize, indices: &mut [u32]) -> u32
-    requires coords_value { off_grid coords.now ≡ false }
-    requires coords_len_bound { (length (points_of coords.now) ≤ most_points) × (length (points_of coords.now) ≤ length indices.old) }
-    requires all_value { all.now ≡ count_from 0 (length (points_of coords.now)) }
-    requires a_value { (a ≡ support (points_of coords.now) rightward) × (b ≡ support (points_of coords.now) leftward) }
-    requires coords_value_2 { on_one_line (points_of coords.now) ≡ false }
-    ensures { Written (points_of coords.now) indices.old result indices.new }
+// Writes the hull of a cloud that is not on one line, from its rightmost point and its leftmost on. Gives back the number of corners.
+fn walk(cloud: &Cloud, all: &[u16], right: usize, left: usize, indices: &mut [u32]) -> u32
+    requires room { length (listed cloud.now.points) ≤ length indices.old }
+    requires all { all.now ≡ count_from 0 (length (listed cloud.now.points)) }
+    requires ends { (right ≡ support (listed cloud.now.points) rightward) × (left ≡ support (listed cloud.now.points) leftward) }
+    requires turns { on_one_line (listed cloud.now.points) ≡ false }
+    ensures { Written (listed cloud.now.points) indices.old result indices.new }
 {
-    let mut ring = places();
-    let mut begun = places();
-    let mut m = lay_two(coords, all, a, b, a, &mut ring, 0);
-    let mut left = all.len();
-    while 0 < left && !settled(&ring[..m]) {
-        let s = first_unseen(&ring[..m]);
-        begin_at(&ring[..m], s, &mut begun);
-        m = sweep(coords, &begun[..m], &mut ring);
-        left -= 1;
+    let chosen = Chosen {
+        points: cloud.points,
+        list: all,
+    };
+    let mut ring = Row::new();
+    let mut begun = Row::new();
+    lay_two(&chosen, right, left, right, &mut ring);
+    for _ in 0..all.len() {
+        if settled(ring.as_slice()) {
+            break;
+        }
+        let start = first_unseen(ring.as_slice()).unwrap_or(0);
+        begin_at(ring.as_slice(), start, &mut begun);
+        sweep(cloud, begun.as_slice(), &mut ring);
     }
-    write_corners(&ring[..m], indices);
-    m as u32
+    let corners = ring.as_slice();
+    write_corners(corners, indices);
+    corners.len() as u32
 }
 
 // The corners of the hull of a cloud, counter-clockwise, by their indices.
-pub fn convex_hull2_idx(coords: &[f32], indices: &mut [u32]) -> Answer
-    ensures { Promise coords.now indices.old result indices.new }
+pub fn convex_hull2_idx(coords: &[f32], indices: &mut [u32]) -> Result<u32, Refusal>
+    ensures { Promise coords.now indices.old (answer_of result) indices.new }
 {
-    let number = outline_refusal(2, MOST_POINTS, coords);
-    if number != 0 {
-        return Answer { number, count: 0 };
+    let points = Points::new(2, MOST_POINTS, coords)?;
+    let all = Row::counted(points.count());
+    let Some((right, left)) = ends(&points, all.as_slice()) else {
+        return Err(Refusal::OnOneLine);
+    };
+    if indices.len() < points.count() {
+        return Err(Refusal::TooLittleRoom);
     }
-    let n = coords.len() / 2;
-    let mut all = places();
-    number_all(&mut all, n);
-    let a = rightmost(coords, &all[..n]);
-    let b = leftmost(coords, &all[..n]);
-    if on_one_line(coords, a, b) {
-        return Answer {
-            number: 12,
-            count: 0,
-        };
-    }
-    if indices.len() < n {
-        return Answer {
-            number: 6,
-            count: 0,
-        };
-    }
-    let count = walk(coords, &all[..n], a, b, indices);
-    Answer { number: 0, count }
+    let cloud = Cloud { points };
+    Ok(walk(&cloud, all.as_slice(), right, left, indices))
 }

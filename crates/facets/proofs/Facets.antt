@@ -7,7 +7,7 @@ use mathlib.Core.Bool.{Bool, cond}
 use mathlib.Core.List.{List, [], ◌∷◌, ◌++◌, append_assoc}
 use borrow.Author.Tests.{lt-ltb, le-ltb}
 use lib.ListN.{length, get_or, take, drop, length-drop}
-use lib.Seq.{take_at, drop-drop, drop-append_seam, get_or-drop}
+use lib.Seq.{take_at, take_all, drop-drop, drop-append_seam, get_or-drop}
 use Rattle.algebra.specs.Lists.{Each, end, ◌&◌}
 use Rattle.algebra.specs.Rings.{first_of}
 use Rattle.rules.specs.Limits.{most_points}
@@ -43,15 +43,20 @@ laid_++ (f ∷ l) m = ap (λ (k : List ℕ). one_laid f ++ k) (laid_++ l m) ∙ 
 
 -- ---- where a list ends
 
+-- what stands from place k on, as a part of the ring
+pub led_from : (ring : List ℕ) (k : ℕ) {led : ℕ} → led ≡ leading (take (length ring - k) (drop k ring)) → led ≡ leading (drop k ring)
+led_from ring k e = e ∙ ap leading (take_all (length ring - k) (drop k ring) (omega (arith, length-drop k ring)))
+
 lead_laid : (l : List Facet) → leading (laid l) ≡ 0
-unfolding leading laid
+unfolding laid
 lead_laid [] = refl
-lead_laid (f ∷ l) = ap (λ (t : Bool). cond t (suc (leading (f.seen ++ laid l))) 0) (le-ltb (mark_of f.from) most_points (mark_high f.from))
+lead_laid (f ∷ l) = ap (λ (t : Bool). cond t (1 + leading (f.seen ++ laid l)) 0) (le-ltb (mark_of f.from) most_points (mark_high f.from))
 
 pub lead_list : {s : List ℕ} → Each (λ i. i < most_points) s → (l : List Facet) → leading (s ++ laid l) ≡ length s
-unfolding leading
 lead_list end l = lead_laid l
-lead_list (◌&◌ {a = i} {l = s} h hs) l = ap (λ (t : Bool). cond t (suc (leading (s ++ laid l))) 0) (lt-ltb i most_points h) ∙ ap suc (lead_list hs l)
+lead_list (◌&◌ {a = i} {l = s} h hs) l =
+    let one : 1 + length s ≡ suc (length s) = omega arith in
+    ap (λ (t : Bool). cond t (1 + leading (s ++ laid l)) 0) (lt-ltb i most_points h) ∙ ap (λ (n : ℕ). 1 + n) (lead_list hs l) ∙ one
 
 -- ---- the facet that stands at place p: its corner, its list, and where the next one stands
 

@@ -55,41 +55,40 @@ module _ (ring : List ℕ) (facets : List Facet) (low : Low facets) (is : ring �
   back_low : Low b.back
   back_low = each_back b.front b.back (rw b.whole at low)
 
-  module _ (h : p < length ring) (q : ℕ) (ends : q ≡ p + 1 + leading (drop (p + 1) ring)) where
+  module _ (h : p < length ring) (led : ℕ) (led_is : led ≡ leading (drop (p + 1) ring)) where
     module _ (f : Facet) (rest : List Facet) (e : b.back ≡ f ∷ rest) where
       here : drop p ring ≡ laid (f ∷ rest)
       here = behind ∙ ap laid e
 
-      q_is : q ≡ p + 1 + length f.seen
-      q_is = ends ∙ ap (λ (n : ℕ). p + 1 + n) (ends_at ring p f rest here (each_head (rw e at back_low)))
+      seen_is : led ≡ length f.seen
+      seen_is = led_is ∙ ends_at ring p f rest here (each_head (rw e at back_low))
 
-      more : q ≢ p + 1 → Passing facets q
+      more : led ≢ 0 → Passing facets (p + (1 + led))
       more d = record {
         front = b.front ++ f ∷ [];
         back = rest;
         whole = b.whole ∙ ap (λ (l : List Facet). b.front ++ l) e ∙ sym (append_assoc b.front (f ∷ []) rest);
         place =
-            ap length (laid_++ b.front (f ∷ []) ∙ ap (λ (l : List ℕ). laid b.front ++ l) (laid_cons f [] ∙ ap (λ (l : List ℕ). mark_of f.from ∷ (f.seen ++ l)) laid_nil))
-            ∙ sizes ∙ sym q_is;
-        same = b.same ∙ ap (begun b.front) e ∙ begun-later b.front f rest (some_seen f.seen (omega (arith, q_is)));
+            ap length (laid_++ b.front (f ∷ []) ∙ ap (λ (l : List ℕ). laid b.front ++ l) (laid_cons f [] ∙ ap (λ (l : List ℕ). mark_of f.from ∷ (f.seen ++ l)) laid_nil)) ∙ sizes;
+        same = b.same ∙ ap (begun b.front) e ∙ begun-later b.front f rest (some_seen f.seen (omega (arith, seen_is)));
       }
         where
-          sizes : length (laid b.front ++ (mark_of f.from ∷ (f.seen ++ []))) ≡ p + 1 + length f.seen
-          sizes = omega (arith, length-append (laid b.front) (mark_of f.from ∷ (f.seen ++ [])), length-append f.seen [], b.place)
+          sizes : length (laid b.front ++ (mark_of f.from ∷ (f.seen ++ []))) ≡ p + (1 + led)
+          sizes = omega (arith, length-append (laid b.front) (mark_of f.from ∷ (f.seen ++ [])), length-append f.seen [], b.place, seen_is)
 
-      found : q ≡ p + 1 → laid (begun [] facets) ≡ begun_at p ring
+      found : led ≡ 0 → laid (begun [] facets) ≡ begun_at p ring
       found d =
-          ap laid (b.same ∙ ap (begun b.front) e ∙ begun_here b.front f rest (none_seen f.seen (omega (arith, q_is))))
+          ap laid (b.same ∙ ap (begun b.front) e ∙ begun_here b.front f rest (none_seen f.seen (omega (arith, seen_is))))
           ∙ laid_++ (f ∷ rest) b.front ∙ ap₂ ◌++◌ (sym here) (sym before)
 
-    pub passing_more : q ≢ p + 1 → Passing facets q
+    pub passing_more : led ≢ 0 → Passing facets (p + (1 + led))
     passing_more d = let (f, rest, e) = some_facet ring p b.back h behind in more f rest e d
 
-    pub passing_found : q ≡ p + 1 → laid (begun [] facets) ≡ begun_at p ring
+    pub passing_found : led ≡ 0 → laid (begun [] facets) ≡ begun_at p ring
     passing_found d = let (f, rest, e) = some_facet ring p b.back h behind in found f rest e d
 
-  pub passing_end : length ring ≤ p → laid (begun [] facets) ≡ begun_at 0 ring
+  pub passing_end : length ring ≤ p → laid (begun [] facets) ≡ ring
   unfolding begun
   passing_end h =
       let e : b.back ≡ [] = no_facet ring p b.back h behind in
-      ap laid (b.same ∙ ap (begun b.front) e) ∙ sym (is ∙ ap laid (b.whole ∙ ap (λ (l : List Facet). b.front ++ l) e ∙ append-nil b.front)) ∙ sym (append-nil ring)
+      ap laid (b.same ∙ ap (begun b.front) e) ∙ sym (is ∙ ap laid (b.whole ∙ ap (λ (l : List Facet). b.front ++ l) e ∙ append-nil b.front))

@@ -1,4 +1,3 @@
-pub mod Stores
 pub mod Facets
 pub mod Laying
 pub mod Firsts

@@ -7,7 +7,7 @@ use mathlib.Core.List.{List, [], ◌∷◌, ◌++◌, append-nil, append_assoc}
 use lib.ListN.{length, get_or, take, drop, length-append}
 use Rattle.algebra.specs.Lists.{Each, ◌&◌}
 use Rattle.algebra.specs.Rings.{first_of}
-use Rattle.algebra.proofs.Lists.{each_head, each_tail, each_imp}
+use Rattle.algebra.proofs.Lists.{each_at, each_head, each_tail, each_imp}
 use Rattle.rules.specs.Limits.{most_points}
 use Rattle.rules.specs.Plane.{Pt}
 use Rattle.hulls.specs.Rounds.{Facet, Way, stay, along}
@@ -42,36 +42,30 @@ module _ (ps : List Pt) (few : length ps ≤ most_points) (ring : List ℕ) (fac
   abbrev c : ℕ
   c = h.sound.corner
 
-  -- the facets from place p on are still to be swept, and what came of the others stands in front of place k
-  pub record Sweeping (out : List ℕ) (p k : ℕ) : Type 0 where
+  -- the facets from place p on are still to be swept, and what came of the others is written
+  pub record Sweeping (out : List ℕ) (p : ℕ) : Type 0 where
     pub rest : List Facet
     pub here : drop p ring ≡ laid rest
     pub corners : Each (λ f. f.from < n) rest
     pub lists : Each (λ f. Each (λ i. i < n) f.seen) rest
     pub at : ℕ
     pub way : Way at rest c
-    pub so_far : take k out ++ laid (sweep_of ps rest) ≡ laid (sweep_of ps facets)
-    pub size : length (take k out) ≡ k
+    pub so_far : out ++ laid (sweep_of ps rest) ≡ laid (sweep_of ps facets)
 
-  pub sweeping_first : (out : List ℕ) → Sweeping out 0 0
-  sweeping_first out = record { rest = facets; here = h.is; corners = h.sound.corners; lists = h.sound.lists; at = c; way = h.sound.way; so_far = refl; size = refl }
-
-  pub sweeping_last : {out : List ℕ} {p k : ℕ} → Sweeping out p k → length ring ≤ p → (k ≤ most_points) × (take k out ≡ laid (sweep_of ps facets))
-  sweeping_last {out} {p} {k} s l =
+  pub sweeping_last : {out : List ℕ} {p : ℕ} → Sweeping out p → length ring ≤ p → out ≡ laid (sweep_of ps facets)
+  sweeping_last {out} {p} s l =
       let e = no_facet ring p s.rest l s.here in
-      let all : take k out ≡ laid (sweep_of ps facets) =
-      sym (append-nil (take k out)) ∙ ap (λ (x : List ℕ). take k out ++ x) (sym (ap (λ (r : List Facet). laid (sweep_of ps r)) e ∙ ap laid (sweep_nil ps) ∙ laid_nil)) ∙ s.so_far in
-      (omega (arith, ap length all, s.size, h.fits), all)
+      sym (append-nil out) ∙ ap (λ (x : List ℕ). out ++ x) (sym (ap (λ (r : List Facet). laid (sweep_of ps r)) e ∙ ap laid (sweep_nil ps) ∙ laid_nil)) ∙ s.so_far
 
   -- what a turn needs, and what it leaves: q is behind the list, u and v are the facet's ends
-  pub record Ready (out : List ℕ) (p k q u v : ℕ) (list : List ℕ) : Type 0 where
-    pub in_list : Each (λ i. i < n) list
+  pub record Ready (out : List ℕ) (p q u v : ℕ) (list : List ℕ) : Type 0 where
+    pub in_list : (k : ℕ) → k < length list → get_or list k 0 < n
     pub u_in : u < n
     pub v_in : v < n
-    pub fits : k + length (laid (parts ps list u v)) ≤ most_points
-    pub next : (out' : List ℕ) (k' : ℕ) → k' ≡ k + length (laid (parts ps list u v)) → take k' out' ≡ take k out ++ laid (parts ps list u v) → Sweeping out' q k'
+    pub fits : length out + length (laid (parts ps list u v)) ≤ most_points
+    pub next : (out' : List ℕ) → out' ≡ out ++ laid (parts ps list u v) → Sweeping out' q
 
-  module _ {out : List ℕ} {p k : ℕ} (s : Sweeping out p k) (low : p < length ring) where
+  module _ {out : List ℕ} {p : ℕ} (s : Sweeping out p) (low : p < length ring) where
     some : 0 < length ring
     some = omega arith
 
@@ -108,41 +102,42 @@ module _ (ps : List Pt) (few : length ps ≤ most_points) (ring : List ℕ) (fac
           seen_is : list ≡ f.seen
           seen_is = list-is ∙ list_at ring p f l at_p q q_is
 
+          listed_in : Each (λ i. i < n) list
+          listed_in = rw seen_is seen_in
+
           parts_are : laid (parts ps list u v) ≡ laid (parts ps f.seen f.from f.to)
           parts_are = λ i. laid (parts ps (seen_is i) (from_is i) (to_is i))
 
-          whole : take k out ++ (laid (parts ps list u v) ++ laid (sweep_of ps l)) ≡ laid (sweep_of ps facets)
+          whole : out ++ (laid (parts ps list u v) ++ laid (sweep_of ps l)) ≡ laid (sweep_of ps facets)
           whole =
-              ap (λ (x : List ℕ). take k out ++ (x ++ laid (sweep_of ps l))) parts_are
-              ∙ ap (λ (x : List ℕ). take k out ++ x) (sym (laid_++ (parts ps f.seen f.from f.to) (sweep_of ps l)) ∙ ap laid (sym (sweep_cons ps f l)) ∙ ap (λ (r : List Facet). laid (sweep_of ps r)) (sym e))
+              ap (λ (x : List ℕ). out ++ (x ++ laid (sweep_of ps l))) parts_are
+              ∙ ap (λ (x : List ℕ). out ++ x) (sym (laid_++ (parts ps f.seen f.from f.to) (sweep_of ps l)) ∙ ap laid (sym (sweep_cons ps f l)) ∙ ap (λ (r : List Facet). laid (sweep_of ps r)) (sym e))
               ∙ s.so_far
 
-          room : k + length (laid (parts ps list u v)) ≤ most_points
+          room : length out + length (laid (parts ps list u v)) ≤ most_points
           room =
               omega (
                 arith,
                 ap length whole,
-                length-append (take k out) (laid (parts ps list u v) ++ laid (sweep_of ps l)),
+                length-append out (laid (parts ps list u v) ++ laid (sweep_of ps l)),
                 length-append (laid (parts ps list u v)) (laid (sweep_of ps l)),
-                s.size,
                 h.fits,
               )
 
-          ready_for : Ready out p k q u v list
+          ready_for : Ready out p q u v list
           ready_for = record {
-            in_list = rw seen_is seen_in;
+            in_list = λ k j. each_at 0 list k j listed_in;
             u_in = rw from_is (each_head (rw e at s.corners));
             v_in = rw to_is (way_in l way_on (each_tail (rw e at s.corners)) (first_in ring facets some h.is h.sound.way h.sound.corners));
             fits = room;
-            next = λ out' k' kq t. record {
+            next = λ out' t. record {
               rest = l;
               here = rest_at ring p f l at_p q q_is;
               corners = each_tail (rw e at s.corners);
               lists = each_tail (rw e at s.lists);
               at = f.to;
               way = way_on;
-              so_far = ap (λ (x : List ℕ). x ++ laid (sweep_of ps l)) t ∙ append_assoc (take k out) (laid (parts ps list u v)) (laid (sweep_of ps l)) ∙ whole;
-              size = ap length t ∙ length-append (take k out) (laid (parts ps list u v)) ∙ ap (λ (m : ℕ). m + length (laid (parts ps list u v))) s.size ∙ sym kq;
+              so_far = ap (λ (x : List ℕ). x ++ laid (sweep_of ps l)) t ∙ append_assoc out (laid (parts ps list u v)) (laid (sweep_of ps l)) ∙ whole;
             };
           }
 
@@ -155,5 +150,5 @@ module _ (ps : List Pt) (few : length ps ≤ most_points) (ring : List ℕ) (fac
 
       pub ready :
           (u v : ℕ) (list : List ℕ) → u ≡ corner_of (get_or ring p 0) → v ≡ corner_of (first_of (get_or ring 0 0) (drop q ring)) → list ≡ take (q - (p + 1)) (drop (p + 1) ring)
-          → Ready out p k q u v list
+          → Ready out p q u v list
       ready u v list a b d = let (f, l, e) = some_facet ring p s.rest low s.here in ready_for f l e q ends u v list a b d

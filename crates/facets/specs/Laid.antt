@@ -1,6 +1,7 @@
 -- A ring of facets as it stands in an array: each facet's corner, marked, and behind it the points that see the facet. And a round as the code
 -- makes it: no point sees both parts of a facet that is split at its farthest point, so those that see the second are not asked about the first.
-use Rattle.std.specs.Prelude.{ℕ, suc, ◌+◌, ◌-◌, ◌≤◌, ◌<◌, ◌≡◌, Bool, cond, List, [], ◌∷◌, ◌++◌, ltb, length}
+use Rattle.std.specs.Prelude.{ℕ, ◌+◌, ◌-◌, ◌≤◌, ◌<◌, ◌≡◌, Bool, List, [], ◌∷◌, ◌++◌, ltb, length}
+use Rattle.std.specs.List.{prefix_len}
 use Rattle.algebra.specs.Lists.{Each}
 use Rattle.rules.specs.Limits.{most_points}
 use Rattle.rules.specs.Plane.{Pt, point}
@@ -23,9 +24,8 @@ abbrev pub unmarked : ℕ → Bool
 unmarked x = ltb x most_points
 
 -- how many unmarked numbers stand in front
-unfoldable pub leading : List ℕ → ℕ
-leading [] = 0
-leading (x ∷ l) = cond (unmarked x) (suc (leading l)) 0
+abbrev pub leading : List ℕ → ℕ
+leading l = prefix_len unmarked l
 
 -- ---- facets
 

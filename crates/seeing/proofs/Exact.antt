@@ -12,29 +12,41 @@ use Rattle.rules.specs.Plane.{Pt, turn, right}
 use Rattle.rules.specs.Hull.{dot, normal}
 use Rattle.hulls.proofs.Directions.{far_from}
 use Rattle.grid.specs.declared.point.Point.{Point}
-use Rattle.grid.specs.Points.{on_grid_pt, pt_of}
+use Rattle.grid.specs.declared.vector.Vector.{Vector}
+use Rattle.grid.specs.Points.{pt_of}
+use Rattle.grid.proofs.OnGrid.{is_on}
 use Rattle.grid.proofs.Value.{Is, Within, lt_is, eq_is, add-within, sub_within, mul-within}
 use Rattle.grid.proofs.Turn.{pt_within}
 
 -- a vector between two points of the grid, in floats
-pub record Directed (n : Point) (N : Pt) : Type 0 where
+pub record Directed (n : Vector) (N : Pt) : Type 0 where
   pub x_is : Within 2048 n.x N.x
   pub y_is : Within 2048 n.y N.y
 
 pub normal_directed :
-    (a b n : Point) → on_grid_pt a ≡ true → on_grid_pt b ≡ true → (n.x ≡ sub binary32 b.y a.y) × (n.y ≡ sub binary32 a.x b.x) → {A B : Pt} → pt_of a ≡ A → pt_of b ≡ B
-    → Directed n (normal A B)
-normal_directed a b n ha hb (e, f) p q =
-    let A = pt_within a ha in
-    let B = pt_within b hb in
+    (a b : Point) (n : Vector) → n.x ≡ sub binary32 b.y a.y → n.y ≡ sub binary32 a.x b.x → {A B : Pt} → pt_of a ≡ A → pt_of b ≡ B → Directed n (normal A B)
+normal_directed a b n e f p q =
+    let A = pt_within a (is_on a) in
+    let B = pt_within b (is_on b) in
     rw (← p, ← q) (record { x_is = rw e (sub_within binary32 B.1 A.1 (lit≤ tt)); y_is = rw f (sub_within binary32 A.0 B.0 (lit≤ tt)) })
 
+-- v is the point p as a vector
 pub far_is :
-    {n : Point} {N : Pt} → Directed n N → (p : Point) → on_grid_pt p ≡ true → {P : Pt} → pt_of p ≡ P → {d : Float}
-    → d ≡ add binary32 (mul binary32 n.x p.x) (mul binary32 n.y p.y) → Is d (dot N P)
-far_is {n} {N} h p hp q e =
-    let P = pt_within p hp in
-    rw (e, ← q) (add-within binary32 (mul-within binary32 h.x_is P.0 (lit≤ tt)) (mul-within binary32 h.y_is P.1 (lit≤ tt)) (lit≤ tt)).is
+    {n : Vector} {N : Pt} → Directed n N → (p : Point) {v : Vector} → v.x ≡ p.x → v.y ≡ p.y → {P : Pt} → pt_of p ≡ P → {d : Float}
+    → d ≡ add binary32 (mul binary32 n.x v.x) (mul binary32 n.y v.y) → Is d (dot N P)
+far_is {n} {N} h p x y q e =
+    let P = pt_within p (is_on p) in
+    rw (e, x, y, ← q) (add-within binary32 (mul-within binary32 h.x_is P.0 (lit≤ tt)) (mul-within binary32 h.y_is P.1 (lit≤ tt)) (lit≤ tt)).is
+
+-- n is the normal of the facet from a to b, and a is as far in its direction as the limit
+pub record Facing (n : Vector) (limit : Float) (a b : Pt) : Type 0 where
+  pub directed : Directed n (normal a b)
+  pub limited : Is limit (dot (normal a b) a)
+
+pub facing :
+    (a b : Point) (n : Vector) {v : Vector} {limit : Float} → n.x ≡ sub binary32 b.y a.y → n.y ≡ sub binary32 a.x b.x → v.x ≡ a.x → v.y ≡ a.y
+    → limit ≡ add binary32 (mul binary32 n.x v.x) (mul binary32 n.y v.y) → {A B : Pt} → pt_of a ≡ A → pt_of b ≡ B → Facing n limit A B
+facing a b n e f x y l p q = let d = normal_directed a b n e f p q in record { directed = d; limited = far_is d a x y p l }
 
 -- to see a facet is to be farther than its beginning, and to be on its line is to be as far
 farther : (d e t : ℤ) → d -ℤ e ≡ neg_ℤ t → lt_z e d ≡ lt_z t (pos 0)

@@ -1,35 +1,31 @@
 -- One step of the loops over a list of points: the farthest so far, and those so far that see a facet.
-use Prim.Native.Nat.{ℕ, ◌+◌, ◌*◌, ◌≤◌, ◌<◌}
+use Prim.Native.Nat.{ℕ, ◌+◌, ◌≤◌, ◌<◌}
 use native.Mathlib.Omega.{arith}
-use native.Mathlib.Nat.{add-zero}
+use native.Mathlib.Nat.{add-zero, zero-add}
 use native.Mathlib.Numerals.{add-one}
 use mathlib.Core.Path.{◌≡◌, refl, sym, ◌∙◌, ap}
 use mathlib.Core.Bool.{Bool, true, false, cond}
 use mathlib.Core.List.{List, [], ◌∷◌, ◌++◌, append-nil, append_assoc}
 use lib.ListN.{length, get_or, set, take, drop, length-append, take-append-drop, drop_of_length-le}
-use lib.Seq.{drop-cons, take-suc, take_all, take-suc-set, take-set-le}
+use lib.Seq.{drop-cons, take-suc, take_all, take-suc-set, take-set-le, length-take-le}
 use lib.Signed.{lt_z}
 use lib.Ieee.{Float, lt}
+use Rattle.std.specs.Int.{from_bool}
 use Rattle.algebra.specs.Lists.{Each, count_from}
 use Rattle.algebra.proofs.Lists.{each_at, keep_++}
-use Rattle.algebra.proofs.Counting.{count_below, count-length}
-use Rattle.rules.specs.Grid.{points_of}
-use Rattle.rules.proofs.Coordinates.{point_fits}
+use Rattle.algebra.proofs.Counting.{count_below, count_more}
 use Rattle.rules.specs.Plane.{Pt, point, right}
 use Rattle.rules.specs.Hull.{dot, farthest, support}
 use Rattle.grid.proofs.Value.{Is, lt_is}
 use Rattle.seeing.specs.Seeing.{farthest_of, seeing}
 
--- a point of the list is there
-pub there : (cs : List Float) (list : List ℕ) → Each (λ i. i < length (points_of cs)) list → (i : ℕ) → i < length list → {j : ℕ} → j ≡ get_or list i 0 → j * 2 + 1 < length cs
-there cs list h i l e = rw e (point_fits cs (get_or list i 0) (each_at 0 list i l h))
-
 -- all of them, numbered
-pub all_there : (n : ℕ) (all : List ℕ) → all ≡ count_from 0 n → Each (λ i. i < n) all
-all_there n all e = rw e (count_below n)
+pub all_there : (n : ℕ) (all : List ℕ) → all ≡ count_from 0 n → (k : ℕ) → k < length all → get_or all k 0 < n
+all_there n all e k h = let below : Each (λ i. i < n) all = rw e (count_below n) in each_at 0 all k h below
 
-pub some_there : (n : ℕ) (all : List ℕ) → all ≡ count_from 0 n → 0 < n → 0 < length all
-some_there n all e h = rw (e, count-length 0 n) h
+pub one_counted : (out : List ℕ) (i : ℕ) → i < length out → take i out ≡ count_from 0 i → take (i + 1) (set out i i) ≡ count_from 0 (i + 1)
+one_counted out i h e =
+    ap (λ (n : ℕ). take n (set out i i)) (add-one i) ∙ take-suc-set out i i h ∙ ap (λ (l : List ℕ). l ++ (i ∷ [])) e ∙ ap (λ (n : ℕ). count_from 0 i ++ (n ∷ [])) (sym (zero-add i)) ∙ sym (count_more 0 i) ∙ ap (count_from 0) (sym (add-one i))
 
 -- ---- the farthest
 
@@ -83,6 +79,14 @@ support-all (p ∷ ps) N all e h =
 
 -- ---- those that see a facet
 
+pub one_at-most : (t : Bool) → from_bool t ≤ 1
+one_at-most true = omega arith
+one_at-most false = omega arith
+
+one_if : (t : Bool) → from_bool t ≡ cond t 1 0
+one_if true = refl
+one_if false = refl
+
 module _ (ps : List Pt) (a b : Pt) where
   abbrev sees : ℕ → Bool
   sees i = right a b (point ps i)
@@ -95,30 +99,33 @@ module _ (ps : List Pt) (a b : Pt) where
   unfolding seeing
   seeing_one j = refl
 
-  module _ (list out₀ : List ℕ) (k : ℕ) where
-    -- of the first i points of the list those that see the facet stand from place k on, up to `end`
+  module _ (list old : List ℕ) where
+    -- of the first i points of the list those that see the facet stand behind the old numbers, up to `end`
     pub record Kept (out : List ℕ) (end i : ℕ) : Type 0 where
-      pub end_is : end ≡ k + length (seeing ps a b (take i list))
-      pub so_far : take end out ≡ take k out₀ ++ seeing ps a b (take i list)
+      pub end_is : end ≡ length old + length (seeing ps a b (take i list))
+      pub so_far : take end out ≡ old ++ seeing ps a b (take i list)
 
-    pub kept_none : Kept out₀ k 0
+    pub kept_none : (out : List ℕ) (k : ℕ) → k ≤ length out → take k out ≡ old → Kept out k 0
     unfolding seeing
-    kept_none = record { end_is = sym (add-zero k); so_far = sym (append-nil (take k out₀)) }
+    kept_none out k h e = record { end_is = sym (length-take-le k out h) ∙ ap length e ∙ sym (add-zero (length old)); so_far = e ∙ sym (append-nil old) }
 
     -- there is room for one more
-    pub kept_fits : {out : List ℕ} {end i : ℕ} → Kept out end i → end ≤ k + length (seeing ps a b list)
+    pub kept_fits : {out : List ℕ} {end i : ℕ} → Kept out end i → end ≤ length old + length (seeing ps a b list)
     kept_fits {end} {i} h =
         let e : length (seeing ps a b list) ≡ length (seeing ps a b (take i list)) + length (seeing ps a b (drop i list)) =
         ap (λ (l : List ℕ). length (seeing ps a b l)) (sym (take-append-drop i list)) ∙ ap length (seeing_++ (take i list) (drop i list)) ∙ length-append (seeing ps a b (take i list)) (seeing ps a b (drop i list)) in
         omega (arith, h.end_is)
 
-    module _ {out : List ℕ} {end i : ℕ} (h : Kept out end i) (low : i < length list) (room : end < length out) {j : ℕ} (e : j ≡ get_or list i 0) (t : Bool) (is : t ≡ sees j) where
+    module _ {out : List ℕ} {end i : ℕ} (h : Kept out end i) (low : i < length list) (room : end < length out) (t : Bool) (is : t ≡ sees (get_or list i 0)) where
+      abbrev j : ℕ
+      j = get_or list i 0
+
       abbrev new : List ℕ
       new = cond t (j ∷ []) []
 
       more : seeing ps a b (take (i + 1) list) ≡ seeing ps a b (take i list) ++ new
       more =
-          ap (seeing ps a b) (ap (λ (n : ℕ). take n list) (add-one i) ∙ take-suc list i 0 low ∙ ap (λ (x : ℕ). take i list ++ (x ∷ [])) (sym e))
+          ap (seeing ps a b) (ap (λ (n : ℕ). take n list) (add-one i) ∙ take-suc list i 0 low)
           ∙ seeing_++ (take i list) (j ∷ []) ∙ ap (λ (l : List ℕ). seeing ps a b (take i list) ++ l) (seeing_one j ∙ ap (λ (s : Bool). cond s (j ∷ []) []) (sym is))
 
       size : (s : Bool) → length (cond s (j ∷ []) []) ≡ cond s 1 0
@@ -129,14 +136,11 @@ module _ (ps : List Pt) (a b : Pt) where
       written true = ap (λ (n : ℕ). take n (set out end j)) (add-one end) ∙ take-suc-set out end j room
       written false = ap (λ (n : ℕ). take n (set out end j)) (add-zero end) ∙ take-set-le end out end j (omega arith) ∙ sym (append-nil (take end out))
 
-      pub kept_more : Kept (set out end j) (end + cond t 1 0) (i + 1)
-      kept_more = record {
+      pub kept_more : (one : ℕ) → one ≡ from_bool t → Kept (set out end j) (end + one) (i + 1)
+      kept_more one o = rw (o, one_if t) (record {
         end_is = omega (arith, h.end_is, ap length more, length-append (seeing ps a b (take i list)) new, size t);
-        so_far =
-            written t ∙ ap (λ (l : List ℕ). l ++ new) h.so_far ∙ append_assoc (take k out₀) (seeing ps a b (take i list)) new
-            ∙ ap (λ (l : List ℕ). take k out₀ ++ l) (sym more);
-      }
+        so_far = written t ∙ ap (λ (l : List ℕ). l ++ new) h.so_far ∙ append_assoc old (seeing ps a b (take i list)) new ∙ ap (λ (l : List ℕ). old ++ l) (sym more);
+      })
 
-    pub kept_all : {out : List ℕ} {end i : ℕ} → Kept out end i → length list ≤ i
-        → (end ≡ k + length (seeing ps a b list)) × (take end out ≡ take k out₀ ++ seeing ps a b list)
-    kept_all {i} h p = let e = take_all i list p in (rw e at h.end_is, rw e at h.so_far)
+    pub kept_all : {out : List ℕ} {end i : ℕ} → Kept out end i → length list ≤ i → take end out ≡ old ++ seeing ps a b list
+    kept_all {i} h p = rw (take_all i list p) at h.so_far

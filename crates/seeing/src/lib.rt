@@ -1,142 +1,114 @@
 // How far points are in the direction of a facet's normal, and which of them see the facet.
 #![tactic(auto)]
 
-ghost use Rattle.std.specs.Prelude.{◌≡◌, true, false, cond, ◌++◌, ◌+◌, ◌≤◌, ◌<◌, length, take};
-ghost use Rattle.std.specs.Float.{binary32};
-ghost use Rattle.std.specs.Float.Ieee.{sub};
-ghost use Rattle.algebra.specs.Lists.{Each, count_from};
-ghost use Rattle.rules.specs.Grid.{points_of};
+pub mod chosen;
+pub mod facet;
+pub mod row;
+
+ghost use Rattle.std.specs.Prelude.{◌≡◌, true, false, ◌<◌, length, MatchOption};
+ghost use Rattle.algebra.specs.Lists.{count_from};
 ghost use Rattle.rules.specs.Hull.{support, rightward, leftward};
 ghost use Rattle.rules.specs.Hull as Rules;
-ghost use Rattle.rules.specs.Limits.{most_points};
-ghost use Rattle.rules.specs.Refusals.{off_grid, on_one_line};
-ghost use Rattle.grid.specs.Points.{on_grid_pt, pt_of};
-ghost use Rattle.seeing.specs.Seeing.{farthest_of, seeing};
+ghost use Rattle.rules.specs.Refusals.{on_one_line};
+ghost use Rattle.grid.specs.Listed.{listed};
+ghost use Rattle.grid.specs.Points.{pt_of};
+ghost use Rattle.seeing.specs.Seeing.{farthest_of};
 
-use entries::place;
+use chosen::Chosen;
+use facet::Facet;
 use grid::point::Point;
-use grid::point_at;
+use grid::points::Points;
 
-// The normal of the facet from a to b, not scaled.
-fn normal(a: Point, b: Point) -> Point
-    ensures { (result.x ≡ sub binary32 b.y a.y) × (result.y ≡ sub binary32 a.x b.x) }
-{
-    Point {
-        x: b.y - a.y,
-        y: a.x - b.x,
-    }
-}
-
-fn one_if(t: bool) -> usize
-    ensures value { result ≡ cond t 1 0 }
-    ensures upper_bound { result ≤ 1 }
-{
-    if t { 1 } else { 0 }
-}
-
-// Of the points of a list the farthest in the direction of the normal of the facet from a to b, of equals the first.
-pub fn farthest(coords: &[f32], list: &[u16], a: Point, b: Point) -> usize
-    requires coords_value { off_grid coords.now ≡ false }
-    requires each { Each (λ i. i < length (points_of coords.now)) list.now }
-    requires list_nonzero { 0 < length list.now }
-    requires a_value { on_grid_pt a ≡ true }
-    requires b_value { on_grid_pt b ≡ true }
-    ensures { result ≡ farthest_of (points_of coords.now) (Rules.normal (pt_of a) (pt_of b)) list.now }
-{
-    let n = normal(a, b);
-    let mut best = place(list[0]);
-    let mut most = n.dot(point_at(coords, best));
-    let mut i = 1;
-    while i < list.len() {
-        let j = place(list[i]);
-        let far = n.dot(point_at(coords, j));
-        if most < far {
-            best = j;
-            most = far;
+impl Chosen<'_> {
+    // The farthest in the direction of the facet's normal, of equals the first.
+    pub fn farthest(&self, facet: Facet) -> usize
+        requires { 0 < length self.now.list.now }
+        ensures { result ≡ farthest_of (listed self.now.points) (Rules.normal (pt_of facet.from) (pt_of facet.to)) self.now.list.now }
+    {
+        let n = facet.normal();
+        let mut best = usize::from(self.list[0]);
+        let mut most = n.dot(self.points.at(best).vector());
+        for i in 1..self.list.len() {
+            let j = usize::from(self.list[i]);
+            let far = n.dot(self.points.at(j).vector());
+            if most < far {
+                best = j;
+                most = far;
+            }
         }
-        i += 1;
+        best
     }
-    best
-}
-
-// Writes the points of a list that see the facet from a to b, from place k on. Gives back the place behind them.
-pub fn keep_seeing(
-    coords: &[f32],
-    list: &[u16],
-    a: Point,
-    b: Point,
-    out: &mut [u16],
-    k: usize,
-) -> usize
-    requires coords_value { off_grid coords.now ≡ false }
-    requires each { Each (λ i. i < length (points_of coords.now)) list.now }
-    requires a_value { on_grid_pt a ≡ true }
-    requires b_value { on_grid_pt b ≡ true }
-    requires most_points_in_bounds { most_points < length out.old }
-    requires list_bound { k + length (seeing (points_of coords.now) (pt_of a) (pt_of b) list.now) ≤ most_points }
-    ensures value { result ≡ k + length (seeing (points_of coords.now) (pt_of a) (pt_of b) list.now) }
-    ensures out_after { take result out.new ≡ take k out.old ++ seeing (points_of coords.now) (pt_of a) (pt_of b) list.now }
-{
-    let n = normal(a, b);
-    let limit = n.dot(a);
-    let mut end = k;
-    let mut i = 0;
-    while i < list.len() {
-        let j = list[i];
-        out[end] = j;
-        end += one_if(limit < n.dot(point_at(coords, place(j))));
-        i += 1;
-    }
-    end
 }
 
 // Whether all points are on one line, by the line through a rightmost and a leftmost one.
-pub fn on_one_line(coords: &[f32], a: usize, b: usize) -> bool
-    requires coords_value { off_grid coords.now ≡ false }
-    requires nonzero { 0 < length (points_of coords.now) }
-    requires a_value { (a ≡ support (points_of coords.now) rightward) × (b ≡ support (points_of coords.now) leftward) }
-    ensures { result ≡ on_one_line (points_of coords.now) }
+pub fn on_one_line(points: &Points, right: usize, left: usize) -> bool
+    requires some { 0 < length (listed points.now) }
+    requires ends { (right ≡ support (listed points.now) rightward) × (left ≡ support (listed points.now) leftward) }
+    ensures { result ≡ on_one_line (listed points.now) }
 {
-    let from = point_at(coords, a);
-    let n = normal(from, point_at(coords, b));
-    let limit = n.dot(from);
-    let count = coords.len() / 2;
-    let mut i = 0;
-    while i < count {
-        if n.dot(point_at(coords, i)) != limit {
+    let facet = Facet {
+        from: points.at(right),
+        to: points.at(left),
+    };
+    let n = facet.normal();
+    let limit = n.dot(facet.from.vector());
+    for i in 0..points.count() {
+        if n.dot(points.at(i).vector()) != limit {
             return false;
         }
-        i += 1;
     }
     true
 }
 
-// The first rightmost point, of all that are numbered.
-pub fn rightmost(coords: &[f32], all: &[u16]) -> usize
-    requires coords_value { off_grid coords.now ≡ false }
-    requires nonzero { 0 < length (points_of coords.now) }
-    requires all_value { all.now ≡ count_from 0 (length (points_of coords.now)) }
-    ensures { result ≡ support (points_of coords.now) rightward }
+// Of all points that are numbered the farthest in the direction of the facet's normal, of equals the first.
+fn farthest_of_all(points: &Points, all: &[u16], facet: Facet) -> usize
+    requires some { 0 < length (listed points.now) }
+    requires all { all.now ≡ count_from 0 (length (listed points.now)) }
+    ensures { result ≡ support (listed points.now) (Rules.normal (pt_of facet.from) (pt_of facet.to)) }
 {
-    farthest(
-        coords,
-        all,
-        Point { x: 0.0, y: 0.0 },
-        Point { x: 0.0, y: 1.0 },
-    )
+    let chosen = Chosen {
+        points: *points,
+        list: all,
+    };
+    chosen.farthest(facet)
+}
+
+// The first rightmost point.
+pub fn rightmost(points: &Points, all: &[u16]) -> usize
+    requires some { 0 < length (listed points.now) }
+    requires all { all.now ≡ count_from 0 (length (listed points.now)) }
+    ensures { result ≡ support (listed points.now) rightward }
+{
+    let facet = Facet {
+        from: Point { x: 0.0, y: 0.0 },
+        to: Point { x: 0.0, y: 1.0 },
+    };
+    farthest_of_all(points, all, facet)
 }
 
 // The first leftmost point.
-pub fn leftmost(coords: &[f32], all: &[u16]) -> usize
-    requires coords_value { off_grid coords.now ≡ false }
-    requires nonzero { 0 < length (points_of coords.now) }
-    requires all_value { all.now ≡ count_from 0 (length (points_of coords.now)) }
-    ensures { result ≡ support (points_of coords.now) leftward }
+pub fn leftmost(points: &Points, all: &[u16]) -> usize
+    requires some { 0 < length (listed points.now) }
+    requires all { all.now ≡ count_from 0 (length (listed points.now)) }
+    ensures { result ≡ support (listed points.now) leftward }
 {
-    farthest(
-        coords,
-        all,
-        Point { x: 0.0, y: 1.0 },
-        Point { x: 0.0, y: 0.0 },
-    )
+    let facet = Facet {
+        from: Point { x: 0.0, y: 1.0 },
+        to: Point { x: 0.0, y: 0.0 },
+    };
+    farthest_of_all(points, all, facet)
+}
+
+// Both, if not all points are on one line.
+pub fn ends(points: &Points, all: &[u16]) -> Option<(usize, usize)>
+    requires some { 0 < length (listed points.now) }
+    requires all { all.now ≡ count_from 0 (length (listed points.now)) }
+    ensures { MatchOption result (on_one_line (listed points.now) ≡ true) (λ ends. (on_one_line (listed points.now) ≡ false) × (ends.0 ≡ support (listed points.now) rightward) × (ends.1 ≡ support (listed points.now) leftward)) }
+{
+    let right = rightmost(points, all);
+    let left = leftmost(points, all);
+    if on_one_line(points, right, left) {
+        return None;
+    }
+    Some((right, left))
 }

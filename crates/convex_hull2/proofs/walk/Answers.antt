@@ -1,157 +1,84 @@
-use Prim.Native.Nat.{ℕ, suc, ◌+◌, ◌-◌, ◌≤◌, ◌<◌}
+use Prim.Native.Nat.{ℕ, suc, ◌+◌, ◌-◌, ◌<◌}
+use native.Mathlib.Nat.{sub-zero}
 use native.Mathlib.Omega.{arith}
-use mathlib.Core.Path.{◌≡◌, sym, ◌∙◌, ap, subst}
+use mathlib.Core.Path.{◌≡◌, ◌∙◌, ap, subst}
 use mathlib.Core.List.{List, []}
-use lib.ListN.{length, take}
-use lib.Seq.{length-take-le}
-use Rattle.rules.specs.Grid.{points_of}
+use lib.ListN.{length}
 use Rattle.algebra.specs.Lists.{Each}
-use Rattle.rules.specs.Limits.{most_points}
 use Rattle.rules.specs.Hull.{rightward, leftward}
 use Rattle.rules.specs.Layout.{over}
 use Rattle.hulls.specs.Rounds.{begun}
 use Rattle.hulls.proofs.Farthest.{support_in}
 use Rattle.hulls.proofs.Straight.{some_point}
 use Rattle.hulls.proofs.Promise.{hull-room}
-use Rattle.facets.specs.Laid.{laid, two}
+use Rattle.grid.specs.Listed.{listed}
 use Rattle.seeing.proofs.Scans.{all_there}
-use Rattle.convex_hull2.proofs.Walking.{Going, first-room, going_first, going_low, going_held, going_next, going_marked, going_hull, going_count, settled_none, rounds_none}
+use Rattle.convex_hull2.proofs.Walking.{Going, first-room, going_first, going_begun, going_next, going_marked, going_hull, going_count, settled_none, rounds_none}
 use Rattle.convex_hull2.proofs.walk.Goals as goal
-use Rattle.convex_hull2.proofs.walk.Goals.{then-loop-left-test+else-not-settled, else-loop-left-test}
+use Rattle.convex_hull2.proofs.walk.Goals.{else-loop-test, then-loop-test+then-settled}
 
-pub slice_bounds-lay_two-end : goal.slice_bounds-lay_two-end
-slice_bounds-lay_two-end c = sym c.places-ring.ensures
+pub invariant_of-chosen : goal.invariant_of-chosen
+invariant_of-chosen c = record { within = all_there _ _ c.requires.all }
 
-pub lay_two-m-requires : goal.lay_two-m-requires
-lay_two-m-requires c =
-    let ends : let ps = points_of c.args.coords.now in (c.args.a < length ps) × (c.args.b < length ps) = let some = some_point _ c.requires.coords_value_2 in
-    (rw c.requires.a_value.0 (support_in _ some rightward), rw c.requires.a_value.1 (support_in _ some leftward)) in
-    let laid-room : 0 + length (laid (two (points_of c.args.coords.now) c.args.all.now c.args.a c.args.b c.args.a)) ≤ most_points = let h = first-room _ c.requires.coords_len_bound.0 c.requires.coords_value_2 _ _ _ c.requires.all_value c.requires.a_value.0 c.requires.a_value.1 in
-    omega arith in
-    let e = ends in
-    record { coords_value = c.requires.coords_value; coords_len_bound = c.requires.coords_len_bound.0; each = all_there _ _ c.requires.all_value; u_in_bounds = (e.0, e.1, e.0); most_points_in_bounds = omega (arith, c.places-ring.ensures); v_bound = laid-room }
+pub lay_two-requires : goal.lay_two-requires
+lay_two-requires c =
+    let some = some_point _ c.requires.turns in
+    let right : c.args.right < length (listed c.args.cloud.now.points) = rw c.requires.ends.0 (support_in _ some rightward) in
+    let left : c.args.left < length (listed c.args.cloud.now.points) = rw c.requires.ends.1 (support_in _ some leftward) in
+    let few = c.args.cloud.now.few in
+    let room = first-room _ few c.requires.turns _ _ _ c.requires.all c.requires.ends.0 c.requires.ends.1 in
+    record { ends = (right, left, right); low = (omega (arith, few, right), omega (arith, few, left)); room = rw c.new-ring.ensures (omega (arith, room)) }
 
-pub loop-left-init : goal.loop-left-init
-loop-left-init c =
-    let laid-room : 0 + length (laid (two (points_of c.args.coords.now) c.args.all.now c.args.a c.args.b c.args.a)) ≤ most_points = let h = first-room _ c.requires.coords_len_bound.0 c.requires.coords_value_2 _ _ _ c.requires.all_value c.requires.a_value.0 c.requires.a_value.1 in
-    omega arith in
-    (c.lay_two-m.auto.out ∙ c.places-ring.ensures, c.places-begun.ensures, omega (arith, c.lay_two-m.ensures.value, laid-room), going_first _ c.requires.coords_len_bound.0 c.requires.coords_value_2 _ _ _ _ _ c.requires.all_value c.requires.a_value.0 c.requires.a_value.1 c.lay_two-m.ensures.out_after)
+pub loop-init : goal.loop-init
+loop-init c =
+    rw sub-zero (going_first _ c.args.cloud.now.few c.requires.turns _ _ _ c.requires.all c.requires.ends.0 c.requires.ends.1 (rw c.new-ring.ensures at c.lay_two.ensures))
 
-pub slice_bounds-ring-end : goal.slice_bounds-ring-end
-slice_bounds-ring-end c =
-    let inside : c.loop-left.m ≤ length c.loop-left.ring = omega (arith, c.loop-left.invariant.0, c.loop-left.invariant.2) in
-    inside
+pub sweep-requires : goal.sweep-requires
+sweep-requires c =
+    let next : length c.args.all.now - c.loop.counter ≡ suc (length c.args.all.now - (c.loop.counter + 1)) = omega (arith, c.loop-test.true) in
+    let on = subst (Going (listed c.args.cloud.now.points) c.loop.ring) next c.loop.invariant in
+    record {
+      held = (
+        begun [] on.facets,
+        going_begun _ c.args.cloud.now.few on c.first_unseen.result c.as_slice-in-loop.ensures.same c.as_slice-in-loop-2.ensures.same c.unwrap_or-start.ensures c.first_unseen.ensures.first
+            (c.as_slice-in-loop-3.ensures.same ∙ c.begin_at.ensures),
+      );
+    }
 
-pub slice_bounds-settled-end : goal.slice_bounds-settled-end
-slice_bounds-settled-end c =
-    let inside : c.loop-left.m ≤ length c.loop-left.ring = omega (arith, c.loop-left.invariant.0, c.loop-left.invariant.2) in
-    let lent : c.loop-left.m ≡ length (take c.loop-left.m c.loop-left.ring) = sym (length-take-le _ _ inside) in
-    lent
-
-pub slice_bounds-ring-end-in-loop-left : goal.slice_bounds-ring-end-in-loop-left
-slice_bounds-ring-end-in-loop-left c =
-    let inside : c.loop-left.m ≤ length c.loop-left.ring = omega (arith, c.loop-left.invariant.0, c.loop-left.invariant.2) in
-    inside
-
-pub slice_bounds-first_unseen-end : goal.slice_bounds-first_unseen-end
-slice_bounds-first_unseen-end c =
-    let inside : c.loop-left.m ≤ length c.loop-left.ring = omega (arith, c.loop-left.invariant.0, c.loop-left.invariant.2) in
-    let lent : c.loop-left.m ≡ length (take c.loop-left.m c.loop-left.ring) = sym (length-take-le _ _ inside) in
-    lent
-
-pub slice_bounds-ring-end-in-loop-left-2 : goal.slice_bounds-ring-end-in-loop-left-2
-slice_bounds-ring-end-in-loop-left-2 c =
-    let inside : c.loop-left.m ≤ length c.loop-left.ring = omega (arith, c.loop-left.invariant.0, c.loop-left.invariant.2) in
-    inside
-
-pub slice_bounds-begin_at-end : goal.slice_bounds-begin_at-end
-slice_bounds-begin_at-end c =
-    let inside : c.loop-left.m ≤ length c.loop-left.ring = omega (arith, c.loop-left.invariant.0, c.loop-left.invariant.2) in
-    let lent : c.loop-left.m ≡ length (take c.loop-left.m c.loop-left.ring) = sym (length-take-le _ _ inside) in
-    lent
-
-pub slice_bounds-begin_at-end-in-loop-left : goal.slice_bounds-begin_at-end-in-loop-left
-slice_bounds-begin_at-end-in-loop-left c = sym c.loop-left.invariant.1
-
-pub begin_at-requires : goal.begin_at-requires
-begin_at-requires c =
-    let inside : c.loop-left.m ≤ length c.loop-left.ring = omega (arith, c.loop-left.invariant.0, c.loop-left.invariant.2) in
-    let lent : c.loop-left.m ≡ length (take c.loop-left.m c.loop-left.ring) = sym (length-take-le _ _ inside) in
-    (c.first_unseen-s.ensures.upper_bound, omega (arith, lent, c.loop-left.invariant.1, c.loop-left.invariant.2))
-
-pub slice_bounds-begun-end : goal.slice_bounds-begun-end
-slice_bounds-begun-end c =
-    let room : c.loop-left.m ≤ length c.begin_at.new.out = omega (arith, c.begin_at.auto.out, c.loop-left.invariant.1, c.loop-left.invariant.2) in
-    room
-
-pub slice_bounds-sweep-end : goal.slice_bounds-sweep-end
-slice_bounds-sweep-end c =
-    let room : c.loop-left.m ≤ length c.begin_at.new.out = omega (arith, c.begin_at.auto.out, c.loop-left.invariant.1, c.loop-left.invariant.2) in
-    sym (length-take-le _ _ room)
-
-pub slice_bounds-sweep-end-in-loop-left : goal.slice_bounds-sweep-end-in-loop-left
-slice_bounds-sweep-end-in-loop-left c = sym c.loop-left.invariant.0
-
-pub sweep-m-requires : goal.sweep-m-requires
-sweep-m-requires c =
-    let on : Going (points_of c.args.coords.now) c.loop-left.ring c.loop-left.m (suc (c.loop-left.left - 1)) = let e : c.loop-left.left ≡ suc (c.loop-left.left - 1) = omega (arith, c.loop-left-test.true) in
-    subst (λ (n : ℕ). Going (points_of c.args.coords.now) c.loop-left.ring c.loop-left.m n) e c.loop-left.invariant.3 in
-    let inside : c.loop-left.m ≤ length c.loop-left.ring = omega (arith, c.loop-left.invariant.0, c.loop-left.invariant.2) in
-    let lent : c.loop-left.m ≡ length (take c.loop-left.m c.loop-left.ring) = sym (length-take-le _ _ inside) in
-    let turned : take c.loop-left.m c.begin_at.new.out ≡ laid (begun [] on.facets) = ap (λ (n : ℕ). take n c.begin_at.new.out) lent ∙ c.begin_at.ensures
-    ∙ sym (c.first_unseen-s.ensures.facets_value _ (going_low _ c.requires.coords_len_bound.0 on) on.is) in
-    record { coords_value = c.requires.coords_value; coords_len_bound = c.requires.coords_len_bound.0; most_points_in_bounds = omega (arith, c.loop-left.invariant.0); held = (_, going_held _ c.requires.coords_len_bound.0 on _ turned) }
-
-pub overflow_sub-left : goal.overflow_sub-left
-overflow_sub-left c = omega (arith, c.loop-left-test.true)
-
-pub loop-left-preserved : goal.loop-left-preserved
-loop-left-preserved c =
-    let on : Going (points_of c.args.coords.now) c.loop-left.ring c.loop-left.m (suc (c.loop-left.left - 1)) = let e : c.loop-left.left ≡ suc (c.loop-left.left - 1) = omega (arith, c.loop-left-test.true) in
-    subst (λ (n : ℕ). Going (points_of c.args.coords.now) c.loop-left.ring c.loop-left.m n) e c.loop-left.invariant.3 in
-    let inside : c.loop-left.m ≤ length c.loop-left.ring = omega (arith, c.loop-left.invariant.0, c.loop-left.invariant.2) in
-    let lent : c.loop-left.m ≡ length (take c.loop-left.m c.loop-left.ring) = sym (length-take-le _ _ inside) in
-    let turned : take c.loop-left.m c.begin_at.new.out ≡ laid (begun [] on.facets) = ap (λ (n : ℕ). take n c.begin_at.new.out) lent ∙ c.begin_at.ensures
-    ∙ sym (c.first_unseen-s.ensures.facets_value _ (going_low _ c.requires.coords_len_bound.0 on) on.is) in
-    let swept = c.sweep-m.ensures _ (going_held _ c.requires.coords_len_bound.0 on _ turned) in
-    (c.sweep-m.auto.out ∙ c.loop-left.invariant.0, c.begin_at.auto.out ∙ c.loop-left.invariant.1, swept.0, going_next _ c.requires.coords_len_bound.0 on _ _ swept.1)
-
-pub slice_bounds-ring-end-2 : goal.slice_bounds-ring-end-2
-slice_bounds-ring-end-2 c =
-    let inside : c.loop-left.m ≤ length c.loop-left.ring = omega (arith, c.loop-left.invariant.0, c.loop-left.invariant.2) in
-    inside
-
-pub slice_bounds-write_corners-end : goal.slice_bounds-write_corners-end
-slice_bounds-write_corners-end c =
-    let inside : c.loop-left.m ≤ length c.loop-left.ring = omega (arith, c.loop-left.invariant.0, c.loop-left.invariant.2) in
-    let lent : c.loop-left.m ≡ length (take c.loop-left.m c.loop-left.ring) = sym (length-take-le _ _ inside) in
-    lent
+pub loop-preserved : goal.loop-preserved
+loop-preserved c =
+    let next : length c.args.all.now - c.loop.counter ≡ suc (length c.args.all.now - (c.loop.counter + 1)) = omega (arith, c.loop-test.true) in
+    let on = subst (Going (listed c.args.cloud.now.points) c.loop.ring) next c.loop.invariant in
+    let held =
+    going_begun _ c.args.cloud.now.few on c.first_unseen.result c.as_slice-in-loop.ensures.same c.as_slice-in-loop-2.ensures.same c.unwrap_or-start.ensures c.first_unseen.ensures.first
+    (c.as_slice-in-loop-3.ensures.same ∙ c.begin_at.ensures)
+    in
+    going_next _ c.args.cloud.now.few on (c.sweep.ensures (begun [] on.facets) held)
 
 pub write_corners-requires : goal.write_corners-requires
 write_corners-requires c =
-    let unseen : Each (λ f. f.seen ≡ []) c.loop-left.invariant.3.facets =
-    elim c.loop-left-test.branch [
-      | then-loop-left-test+else-not-settled w ↦ settled_none _ c.requires.coords_len_bound.0 c.loop-left.invariant.3 (sym w.settled.ensures ∙ w.if-not-settled.false)
-      | else-loop-left-test w ↦ rounds_none _ c.requires.coords_len_bound.0 c.loop-left.invariant.3 (omega (arith, w.loop-left-test.false))
+    let few = c.args.cloud.now.few in
+    let unseen : Each (λ f. f.seen ≡ []) c.loop.invariant.facets =
+    elim c.loop-test.branch [
+      | else-loop-test w ↦ rounds_none _ few c.loop.invariant (omega (arith, w.loop-test.false))
+      | then-loop-test+then-settled w ↦ settled_none _ few c.loop.invariant (rw w.as_slice.ensures.same at (w.settled.ensures.0 w.if-settled.true))
     ] in
-    record { ring_in_bounds = omega (arith, going_count _ c.requires.coords_len_bound.0 c.requires.coords_value_2 c.loop-left.invariant.3 unseen, hull-room _ c.requires.coords_value_2, c.requires.coords_len_bound.1); each = going_marked _ c.requires.coords_len_bound.0 c.requires.coords_value_2 c.loop-left.invariant.3 unseen }
-
-pub overflow_cast-result : goal.overflow_cast-result
-overflow_cast-result c = omega (arith, c.loop-left.invariant.2)
-
-pub shape_of-indices : goal.shape_of-indices
-shape_of-indices c = c.write_corners.auto.indices
+    record {
+      room = rw c.as_slice-corners.ensures.same (omega (arith, going_count _ few c.requires.turns c.loop.invariant unseen, hull-room _ c.requires.turns, c.requires.room));
+      marked = rw c.as_slice-corners.ensures.same (going_marked _ few c.requires.turns c.loop.invariant unseen);
+    }
 
 pub returns : goal.returns
 returns c =
-    let unseen : Each (λ f. f.seen ≡ []) c.loop-left.invariant.3.facets =
-    elim c.loop-left-test.branch [
-      | then-loop-left-test+else-not-settled w ↦ settled_none _ c.requires.coords_len_bound.0 c.loop-left.invariant.3 (sym w.settled.ensures ∙ w.if-not-settled.false)
-      | else-loop-left-test w ↦ rounds_none _ c.requires.coords_len_bound.0 c.loop-left.invariant.3 (omega (arith, w.loop-left-test.false))
+    let few = c.args.cloud.now.few in
+    let unseen : Each (λ f. f.seen ≡ []) c.loop.invariant.facets =
+    elim c.loop-test.branch [
+      | else-loop-test w ↦ rounds_none _ few c.loop.invariant (omega (arith, w.loop-test.false))
+      | then-loop-test+then-settled w ↦ settled_none _ few c.loop.invariant (rw w.as_slice.ensures.same at (w.settled.ensures.0 w.if-settled.true))
     ] in
-    let inside : c.loop-left.m ≤ length c.loop-left.ring = omega (arith, c.loop-left.invariant.0, c.loop-left.invariant.2) in
-    let lent : c.loop-left.m ≡ length (take c.loop-left.m c.loop-left.ring) = sym (length-take-le _ _ inside) in
     record {
-      count = lent ∙ going_count _ c.requires.coords_len_bound.0 c.requires.coords_value_2 c.loop-left.invariant.3 unseen;
-      indices = c.write_corners.ensures ∙ ap (λ (h : List ℕ). over h c.args.indices.now) (going_hull _ c.requires.coords_len_bound.0 c.requires.coords_value_2 c.loop-left.invariant.3 unseen);
+      count = rw c.as_slice-corners.ensures.same (going_count _ few c.requires.turns c.loop.invariant unseen);
+      indices =
+          c.write_corners.ensures
+          ∙ ap (λ (h : List ℕ). over h c.args.indices.now) (rw c.as_slice-corners.ensures.same (going_hull _ few c.requires.turns c.loop.invariant unseen));
     }
