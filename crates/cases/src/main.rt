@@ -5,51 +5,39 @@
 mod shapes;
 mod show;
 
-use show::{ask, ask_convex, cut, cut_large, hull, merge, merge_large, root, text};
+use show::{ask, ask_convex, cut, cut_large, hull, merge, merge_large};
 use std::io;
 
-// The square P.
-fn square() -> [f32; 8] {
-    [0.0f32, 0.0, 4.0, 0.0, 4.0, 4.0, 0.0, 4.0]
-}
+// P.
+const SQUARE: [f32; 8] = [0.0, 0.0, 4.0, 0.0, 4.0, 4.0, 0.0, 4.0];
 
 // A merge with room for four triangles.
-fn merge_few(rt: &impl Print, name: &[u8], coords: &[f32], triangles: &[u32]) -> io::Result<()> {
+fn merge_few(rt: &impl Print, name: &str, coords: &[f32], triangles: &[u32]) -> io::Result<()> {
     merge(rt, name, coords, triangles, &mut [9u32; 12], &mut [9u32; 4])
 }
 
 // K1 to K6: P, the arrow Q, a triangle, P backwards.
 fn shapes_cut(rt: &impl Print) -> io::Result<()> {
-    let p = square();
     let q = [0.0f32, 0.0, 2.0, 1.0, 4.0, 0.0, 2.0, 4.0];
     let t = [0.0f32, 0.0, 4.0, 0.0, 0.0, 4.0];
     let back = [0.0f32, 0.0, 0.0, 4.0, 4.0, 4.0, 4.0, 0.0];
-    cut(rt, b"K1  P cut", &p, &mut [9u32; 6])?;
-    merge_few(rt, b"K2  K1 merged", &p, &[2u32, 3, 0, 2, 0, 1])?;
-    cut(rt, b"K3  Q cut", &q, &mut [9u32; 6])?;
-    merge_few(rt, b"K4  K3 merged", &q, &[1u32, 2, 3, 3, 0, 1])?;
-    cut(rt, b"K5  a triangle cut", &t, &mut [9u32; 3])?;
-    cut(rt, b"K6  P backwards cut", &back, &mut [9u32; 6])
+    cut(rt, "K1  P cut", &SQUARE, &mut [9u32; 6])?;
+    merge_few(rt, "K2  K1 merged", &SQUARE, &[2u32, 3, 0, 2, 0, 1])?;
+    cut(rt, "K3  Q cut", &q, &mut [9u32; 6])?;
+    merge_few(rt, "K4  K3 merged", &q, &[1u32, 2, 3, 3, 0, 1])?;
+    cut(rt, "K5  a triangle cut", &t, &mut [9u32; 3])?;
+    cut(rt, "K6  P backwards cut", &back, &mut [9u32; 6])
 }
 
 // K7 to K12: P asked on its border, P with too little room, a root.
 fn square_asked(rt: &impl Print) -> io::Result<()> {
-    let p = square();
-    ask(rt, b"K7  P asked at (0,2)", 0.0, 2.0, &p)?;
-    ask(rt, b"K8  P asked at (4,2)", 4.0, 2.0, &p)?;
-    ask(rt, b"K9  P asked at (2,0)", 2.0, 0.0, &p)?;
-    ask(rt, b"K10 P asked at (2,4)", 2.0, 4.0, &p)?;
-    cut(rt, b"K11 P with five slots", &p, &mut [9u32; 5])?;
-    root(rt, b"K12 root of 2 by 2^23", 2)
-}
-
-// The first n of some coordinates, or all where there are fewer.
-fn front(coords: &[f32], n: usize) -> &[f32] {
-    if n <= coords.len() {
-        &coords[..n]
-    } else {
-        coords
-    }
+    ask(rt, "K7  P asked at (0,2)", 0.0, 2.0, &SQUARE)?;
+    ask(rt, "K8  P asked at (4,2)", 4.0, 2.0, &SQUARE)?;
+    ask(rt, "K9  P asked at (2,0)", 2.0, 0.0, &SQUARE)?;
+    ask(rt, "K10 P asked at (2,4)", 2.0, 4.0, &SQUARE)?;
+    cut(rt, "K11 P with five slots", &SQUARE, &mut [9u32; 5])?;
+    let bits = words::bits(root::root(2));
+    println!(rt; "K12 root of 2 by 2^23: {}", bits % 8388608 + 8388608)
 }
 
 // The limits of the point tests: few corners.
@@ -57,32 +45,31 @@ fn spots_of_few(rt: &impl Print) -> io::Result<()> {
     let none = [0.0f32; 0];
     let one = [1.0f32, 1.0];
     let two = [0.0f32, 0.0, 2.0, 2.0];
-    ask(rt, b"no corners", 0.0, 0.0, &none)?;
-    ask(rt, b"one corner, asked there", 1.0, 1.0, &one)?;
-    ask(rt, b"one corner, asked beside it", 1.0, 2.0, &one)?;
-    ask(rt, b"two corners, between them", 1.0, 1.0, &two)?;
-    ask(rt, b"two corners, beyond them", 9.0, 9.0, &two)?;
-    ask_convex(rt, b"no corners, convex", 0.0, 0.0, &none)?;
-    ask_convex(rt, b"one corner, convex", 7.0, -9.0, &one)?;
-    ask_convex(rt, b"two corners, convex, on their line", 9.0, 9.0, &two)?;
-    ask_convex(rt, b"two corners, convex, off their line", 9.0, 8.0, &two)
+    ask(rt, "no corners", 0.0, 0.0, &none)?;
+    ask(rt, "one corner, asked there", 1.0, 1.0, &one)?;
+    ask(rt, "one corner, asked beside it", 1.0, 2.0, &one)?;
+    ask(rt, "two corners, between them", 1.0, 1.0, &two)?;
+    ask(rt, "two corners, beyond them", 9.0, 9.0, &two)?;
+    ask_convex(rt, "no corners, convex", 0.0, 0.0, &none)?;
+    ask_convex(rt, "one corner, convex", 7.0, -9.0, &one)?;
+    ask_convex(rt, "two corners, convex, on their line", 9.0, 9.0, &two)?;
+    ask_convex(rt, "two corners, convex, off their line", 9.0, 8.0, &two)
 }
 
 // Inside, outside, and the border: P, and P with a slot to its middle.
 fn spots_by_the_border(rt: &impl Print) -> io::Result<()> {
-    let p = square();
     let slotted = [
         0.0f32, 0.0, 4.0, 0.0, 4.0, 2.0, 2.0, 2.0, 4.0, 2.0, 4.0, 4.0, 0.0, 4.0,
     ];
-    ask(rt, b"P asked at (2,2)", 2.0, 2.0, &p)?;
-    ask(rt, b"P asked at (5,2)", 5.0, 2.0, &p)?;
-    ask(rt, b"P at a corner", 4.0, 4.0, &p)?;
-    ask(rt, b"P on the prolongation of an edge", 6.0, 0.0, &p)?;
-    ask(rt, b"on the line of a slot", 3.0, 2.0, &slotted)?;
-    ask(rt, b"at the end of the slot", 2.0, 2.0, &slotted)?;
+    ask(rt, "P asked at (2,2)", 2.0, 2.0, &SQUARE)?;
+    ask(rt, "P asked at (5,2)", 5.0, 2.0, &SQUARE)?;
+    ask(rt, "P at a corner", 4.0, 4.0, &SQUARE)?;
+    ask(rt, "P on the prolongation of an edge", 6.0, 0.0, &SQUARE)?;
+    ask(rt, "on the line of a slot", 3.0, 2.0, &slotted)?;
+    ask(rt, "at the end of the slot", 2.0, 2.0, &slotted)?;
     ask(
         rt,
-        b"on its prolongation, level with its corners",
+        "on its prolongation, level with its corners",
         1.0,
         2.0,
         &slotted,
@@ -95,22 +82,22 @@ fn spots_on_the_grid(rt: &impl Print) -> io::Result<()> {
     let minus_zero = [-0.0f32, -0.0, 4.0, 0.0, 4.0, 4.0, 0.0, 4.0];
     let off = [0.0f32, 0.0, 1025.0, 0.0, 4.0, 4.0];
     let half = [0.0f32, 0.0, 0.5, 0.0, 4.0, 4.0];
-    ask(rt, b"an odd number of coordinates", 0.0, 0.0, &odd)?;
-    ask(rt, b"minus zero for zero", 0.0, 2.0, &minus_zero)?;
-    ask(rt, b"asked at minus zero", -0.0, 2.0, &minus_zero)?;
-    ask(rt, b"a corner at 1025", 1.0, 1.0, &off)?;
-    ask(rt, b"a corner at a half", 1.0, 1.0, &half)?;
-    ask(rt, b"asked at 1024", 1024.0, 2.0, &minus_zero)?;
-    ask(rt, b"asked at 1025", 1025.0, 2.0, &minus_zero)?;
-    ask(rt, b"asked at no number", 0.0 / 0.0, 2.0, &minus_zero)
+    ask(rt, "an odd number of coordinates", 0.0, 0.0, &odd)?;
+    ask(rt, "minus zero for zero", 0.0, 2.0, &minus_zero)?;
+    ask(rt, "asked at minus zero", -0.0, 2.0, &minus_zero)?;
+    ask(rt, "a corner at 1025", 1.0, 1.0, &off)?;
+    ask(rt, "a corner at a half", 1.0, 1.0, &half)?;
+    ask(rt, "asked at 1024", 1024.0, 2.0, &minus_zero)?;
+    ask(rt, "asked at 1025", 1025.0, 2.0, &minus_zero)?;
+    ask(rt, "asked at no number", 0.0 / 0.0, 2.0, &minus_zero)
 }
 
 // At 512 and 513 corners.
-fn spots_of_many(rt: &impl Print, border: &[f32]) -> io::Result<()> {
-    ask(rt, b"512 corners", 64.0, 64.0, front(border, 1024))?;
-    ask(rt, b"513 corners", 64.0, 64.0, border)?;
-    ask_convex(rt, b"512 corners, convex", 64.0, 64.0, front(border, 1024))?;
-    ask(rt, b"1025 coordinates", 64.0, 64.0, front(border, 1025))
+fn spots_of_many(rt: &impl Print, border: &[f32; 1026]) -> io::Result<()> {
+    ask(rt, "512 corners", 64.0, 64.0, &border[..1024])?;
+    ask(rt, "513 corners", 64.0, 64.0, border)?;
+    ask_convex(rt, "512 corners, convex", 64.0, 64.0, &border[..1024])?;
+    ask(rt, "1025 coordinates", 64.0, 64.0, &border[..1025])
 }
 
 // The limits of the cutter, and its worst shapes.
@@ -118,16 +105,16 @@ fn outlines(rt: &impl Print) -> io::Result<()> {
     let none = [0.0f32; 0];
     let twice = [0.0f32, 0.0, 0.0, 0.0, 4.0, 0.0];
     let still_blocks = [0.0f32, 0.0, 1.0, 0.0, 0.0, 1.0, 2.0, 0.0, 2.0, 2.0];
-    cut(rt, b"no corners", &none, &mut [9u32; 0])?;
+    cut(rt, "no corners", &none, &mut [9u32; 0])?;
     cut(
         rt,
-        b"two equal neighbours and no room",
+        "two equal neighbours and no room",
         &twice,
         &mut [9u32; 0],
     )?;
     cut(
         rt,
-        b"a cut point that still blocks",
+        "a cut point that still blocks",
         &still_blocks,
         &mut [9u32; 9],
     )
@@ -139,13 +126,13 @@ fn outlines_by_area(rt: &impl Print) -> io::Result<()> {
     let straight = [0.0f32, 0.0, 1.0, 0.0, 2.0, 0.0, 3.0, 0.0];
     let back = [0.0f32, 0.0, 1.0, 0.0, 0.0, 0.0, 0.0, 1.0];
     let crossed_over = [0.0f32, 0.0, 0.0, 1.0, 1.0, 0.0, 1.0, 2.0];
-    cut(rt, b"a clockwise triangle", &clockwise, &mut [9u32; 3])?;
-    cut(rt, b"the same with no room", &clockwise, &mut [9u32; 0])?;
-    cut(rt, b"four on a line", &straight, &mut [9u32; 6])?;
-    cut(rt, b"there and back", &back, &mut [9u32; 6])?;
+    cut(rt, "a clockwise triangle", &clockwise, &mut [9u32; 3])?;
+    cut(rt, "the same with no room", &clockwise, &mut [9u32; 0])?;
+    cut(rt, "four on a line", &straight, &mut [9u32; 6])?;
+    cut(rt, "there and back", &back, &mut [9u32; 6])?;
     cut(
         rt,
-        b"a last triangle that is clockwise",
+        "a last triangle that is clockwise",
         &crossed_over,
         &mut [9u32; 6],
     )
@@ -155,47 +142,45 @@ fn outlines_by_area(rt: &impl Print) -> io::Result<()> {
 fn outlines_without_ear(rt: &impl Print) -> io::Result<()> {
     let none = [0.0f32, 0.0, 0.0, 1.0, 1.0, 1.0, 2.0, 0.0, 0.0, 2.0];
     let later = [0.0f32, 0.0, 1.0, 1.0, 0.0, 1.0, 2.0, 0.0, 0.0, 2.0];
-    cut(rt, b"no ear", &none, &mut [9u32; 9])?;
-    cut(rt, b"the same with a slot too few", &none, &mut [9u32; 8])?;
-    cut(rt, b"no ear after one cut", &later, &mut [9u32; 9])
+    cut(rt, "no ear", &none, &mut [9u32; 9])?;
+    cut(rt, "the same with a slot too few", &none, &mut [9u32; 8])?;
+    cut(rt, "no ear after one cut", &later, &mut [9u32; 9])
 }
 
 // At 512 and 513 corners, and the worst shapes.
 fn outlines_of_many(
     rt: &impl Print,
-    border: &[f32],
+    border: &[f32; 1026],
     comb: &[f32],
     spiral: &[f32],
 ) -> io::Result<()> {
-    cut_large(rt, b"512 corners round a square", front(border, 1024))?;
-    cut_large(rt, b"513 corners", border)?;
-    cut_large(rt, b"1025 coordinates", front(border, 1025))?;
-    cut_large(rt, b"a comb of 512 corners", comb)?;
-    cut_large(rt, b"a spiral of 64 corners", spiral)
+    cut_large(rt, "512 corners round a square", &border[..1024])?;
+    cut_large(rt, "513 corners", border)?;
+    cut_large(rt, "1025 coordinates", &border[..1025])?;
+    cut_large(rt, "a comb of 512 corners", comb)?;
+    cut_large(rt, "a spiral of 64 corners", spiral)
 }
 
 // The largest area and the smallest.
-fn largest_areas(rt: &impl Print, round: &[f32; 1024], backwards: &[f32; 1024]) -> io::Result<()> {
-    cut_large(rt, b"128 times round the grid", round)?;
-    cut_large(rt, b"the same backwards", backwards)
+fn largest_areas(rt: &impl Print, round: &[f32], backwards: &[f32]) -> io::Result<()> {
+    cut_large(rt, "128 times round the grid", round)?;
+    cut_large(rt, "the same backwards", backwards)
 }
 
 // The limits of the merger.
 fn triangle_lists(rt: &impl Print) -> io::Result<()> {
-    let p = square();
     let moved = [2u32, 3, 0, 2, 0, 1, 2, 3, 0, 1, 2, 3];
-    merge_few(rt, b"no triangles", &p, &[0u32; 0])?;
-    merge_few(rt, b"two indices", &p, &[0u32, 1])?;
-    merge_few(rt, b"an index not below the points", &p, &[0u32, 1, 4])?;
-    merge_few(rt, b"repeated indices", &p, &[0u32, 0, 0, 1, 1, 1])?;
-    merge_few(rt, b"the last piece moves", &p, &moved)
+    merge_few(rt, "no triangles", &SQUARE, &[0u32; 0])?;
+    merge_few(rt, "two indices", &SQUARE, &[0u32, 1])?;
+    merge_few(rt, "an index not below the points", &SQUARE, &[0u32, 1, 4])?;
+    merge_few(rt, "repeated indices", &SQUARE, &[0u32, 0, 0, 1, 1, 1])?;
+    merge_few(rt, "the last piece moves", &SQUARE, &moved)
 }
 
 // At 510 and 511 triangles.
 fn lists_of_many(rt: &impl Print) -> io::Result<()> {
-    let p = square();
-    merge_large(rt, b"510 triangles of one point", &p, &[0u32; 1530])?;
-    merge_large(rt, b"511 triangles", &p, &[0u32; 1533])
+    merge_large(rt, "510 triangles of one point", &SQUARE, &[0u32; 1530])?;
+    merge_large(rt, "511 triangles", &SQUARE, &[0u32; 1533])
 }
 
 // Clouds: points in and on a square, equals, straight corners, and where the crate answers otherwise.
@@ -207,37 +192,37 @@ fn clouds(rt: &impl Print) -> io::Result<()> {
     let rounded = [
         45.0f32, -50.0, 60.0, -110.0, -85.0, 70.0, 240.0, -230.0, -20.0, 10.0,
     ];
-    hull(rt, b"a square and its middle", &middle, &mut [9u32; 5])?;
-    hull(rt, b"a straight corner that stays", &kept, &mut [9u32; 5])?;
-    hull(rt, b"the same in another order", &left_out, &mut [9u32; 5])?;
+    hull(rt, "a square and its middle", &middle, &mut [9u32; 5])?;
+    hull(rt, "a straight corner that stays", &kept, &mut [9u32; 5])?;
+    hull(rt, "the same in another order", &left_out, &mut [9u32; 5])?;
     hull(
         rt,
-        b"a cloud with a straight corner in the crate",
+        "a cloud with a straight corner in the crate",
         &slanted,
         &mut [9u32; 5],
     )?;
     hull(
         rt,
-        b"a cloud whose ring turns back in the crate",
+        "a cloud whose ring turns back in the crate",
         &rounded,
         &mut [9u32; 5],
     )
 }
 
 // The limits of the hull.
-fn clouds_refused(rt: &impl Print, border: &[f32]) -> io::Result<()> {
+fn clouds_refused(rt: &impl Print, border: &[f32; 1026]) -> io::Result<()> {
     let line = [0.0f32, 0.0, 2.0, 1.0, 6.0, 3.0];
-    hull(rt, b"three on a line and no room", &line, &mut [9u32; 0])?;
-    hull(rt, b"two points", front(&line, 4), &mut [9u32; 2])?;
-    hull(rt, b"one point", front(&line, 2), &mut [9u32; 1])?;
-    hull(rt, b"a square with three slots", &square(), &mut [9u32; 3])?;
+    hull(rt, "three on a line and no room", &line, &mut [9u32; 0])?;
+    hull(rt, "two points", &line[..4], &mut [9u32; 2])?;
+    hull(rt, "one point", &line[..2], &mut [9u32; 1])?;
+    hull(rt, "a square with three slots", &SQUARE, &mut [9u32; 3])?;
     hull(
         rt,
-        b"512 points round a square",
-        front(border, 1024),
+        "512 points round a square",
+        &border[..1024],
         &mut [9u32; 512],
     )?;
-    hull(rt, b"513 points", border, &mut [9u32; 513])
+    hull(rt, "513 points", border, &mut [9u32; 513])
 }
 
 // A cover with two bolt ears: 12 corners.
@@ -248,7 +233,7 @@ fn cover(rt: &impl Print) -> io::Result<()> {
     ];
     cut(
         rt,
-        b"a cover with two bolt ears, cut",
+        "a cover with two bolt ears, cut",
         &cover,
         &mut [9u32; 30],
     )?;
@@ -258,54 +243,51 @@ fn cover(rt: &impl Print) -> io::Result<()> {
     ];
     merge(
         rt,
-        b"the same, merged",
+        "the same, merged",
         &cover,
         &cut_cover,
         &mut [9u32; 30],
         &mut [9u32; 10],
     )?;
-    ask(rt, b"its middle", 20.0, 12.0, &cover)?;
-    ask(rt, b"the left ear", -8.0, 12.0, &cover)?;
-    ask(rt, b"beside the left ear", -8.0, 4.0, &cover)
+    ask(rt, "its middle", 20.0, 12.0, &cover)?;
+    ask(rt, "the left ear", -8.0, 12.0, &cover)?;
+    ask(rt, "beside the left ear", -8.0, 4.0, &cover)
 }
 
-fn many(
-    rt: &impl Print,
-    border: &[f32; 1026],
-    comb: &[f32; 1024],
-    spiral: &[f32; 128],
-) -> io::Result<()> {
-    text(rt, b"\nMany corners\n")?;
-    spots_of_many(rt, border)?;
-    outlines_of_many(rt, border, comb, spiral)
+// All of these at many corners.
+fn many(rt: &impl Print) -> io::Result<()> {
+    let border = shapes::border();
+    spots_of_many(rt, &border)?;
+    outlines_of_many(rt, &border, &shapes::comb(), &shapes::spiral())?;
+    largest_areas(
+        rt,
+        &shapes::round_the_grid(1.0),
+        &shapes::round_the_grid(-1.0),
+    )
 }
 
 fn main(rt: HostRuntime) -> io::Result<()> {
-    text(&rt, b"The twelve small cases\n")?;
+    println!(rt; "The twelve small cases")?;
     shapes_cut(&rt)?;
     square_asked(&rt)?;
-    text(&rt, b"\nSpots\n")?;
+    println!(rt; "\nSpots")?;
     spots_by_the_border(&rt)?;
     spots_of_few(&rt)?;
     spots_on_the_grid(&rt)?;
-    text(&rt, b"\nOutlines\n")?;
+    println!(rt; "\nOutlines")?;
     outlines(&rt)?;
     outlines_by_area(&rt)?;
     outlines_without_ear(&rt)?;
-    text(&rt, b"\nTriangle lists\n")?;
+    println!(rt; "\nTriangle lists")?;
     triangle_lists(&rt)?;
     lists_of_many(&rt)?;
-    many(&rt, &shapes::border(), &shapes::comb(), &shapes::spiral())?;
-    largest_areas(
-        &rt,
-        &shapes::round_the_grid(1.0),
-        &shapes::round_the_grid(-1.0),
-    )?;
-    text(&rt, b"\nClouds\n")?;
+    println!(rt; "\nMany corners")?;
+    many(&rt)?;
+    println!(rt; "\nClouds")?;
     clouds(&rt)?;
     clouds_refused(&rt, &shapes::border())?;
-    text(&rt, b"\nRoots\n")?;
+    println!(rt; "\nRoots")?;
     show::roots(&rt)?;
-    text(&rt, b"\nA cover\n")?;
+    println!(rt; "\nA cover")?;
     cover(&rt)
 }

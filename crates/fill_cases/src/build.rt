@@ -1,88 +1,85 @@
 // Long lines, put together.
-ghost use Rattle.std.specs.Prelude.{◌≤◌, ◌≡◌, length};
-ghost use Rattle.rules.specs.Limits.{most_coordinates};
+ghost use Rattle.std.specs.Prelude.{◌≤◌};
 
-use entries::{MOST_COORDINATES, no_floats, wide};
+use entries::MOST_COORDINATES;
 use wkt::write::write_polygon;
 
-pub fn room() -> [u8; 8200]
-    ensures { length result ≡ 8200 }
-{
-    [0u8; 8200]
+// Longer than any line that is read.
+const MOST_BYTES: usize = 8200;
+
+#[derive(Clone, Copy)]
+pub struct Line {
+    bytes: [u8; MOST_BYTES],
+    count: usize,
+    ghost in_bounds: { count ≤ 8200 },
 }
 
-// Puts a word at a place, as far as there is room, and answers where it ends.
-fn push(line: &mut [u8], at: usize, word: &[u8]) -> usize
-    requires { at ≤ length line.old }
-    ensures { result ≤ length line.old }
-{
-    let mut end = at;
-    for byte in word {
-        if line.len() <= end {
-            return end;
+impl Line {
+    fn new() -> Line {
+        Line {
+            bytes: [0u8; MOST_BYTES],
+            count: 0,
         }
-        line[end] = *byte;
-        end += 1;
     }
-    end
-}
 
-// A word so many times.
-fn push_many(line: &mut [u8], at: usize, word: &[u8], times: usize) -> usize
-    requires { at ≤ length line.old }
-    ensures { result ≤ length line.old }
-{
-    let mut end = at;
-    for _ in 0..times {
-        end = push(line, end, word);
+    pub fn as_bytes(&self) -> &[u8] {
+        &self.bytes[..self.count]
     }
-    end
+
+    // Puts a word behind the line, where there is room for it.
+    fn push(&mut self, word: &str) {
+        let word = word.as_bytes();
+        let room = &mut self.bytes[self.count..];
+        if word.len() <= room.len() {
+            room[..word.len()].copy_from_slice(word);
+            self.count += word.len();
+        }
+    }
+
+    fn push_many(&mut self, word: &str, times: usize) {
+        for _ in 0..times {
+            self.push(word);
+        }
+    }
 }
 
 // A POLYGON line whose first number has 4,082 digits, with these words between that and the closing point.
-pub fn digits(line: &mut [u8], between: &[u8]) -> usize
-    ensures { result ≤ length line.old }
-{
-    let first = push(line, 0, b"POLYGON ((");
-    let middle = push_many(line, first, b"1", 4082);
-    let last = push(line, middle, between);
-    let end = push_many(line, last, b"1", 4082);
-    push(line, end, b" 0))")
+pub fn digits(between: &str) -> Line {
+    let mut line = Line::new();
+    line.push("POLYGON ((");
+    line.push_many("1", 4082);
+    line.push(between);
+    line.push_many("1", 4082);
+    line.push(" 0))");
+    line
 }
 
 // A POLYGON line of so many corners at one point, with this end.
-pub fn corners(line: &mut [u8], n: usize, end: &[u8]) -> usize
-    ensures { result ≤ length line.old }
-{
-    let first = push(line, 0, b"POLYGON ((");
-    let last = push_many(line, first, b"0 0, ", n);
-    push(line, last, end)
+pub fn corners(n: usize, end: &str) -> Line {
+    let mut line = Line::new();
+    line.push("POLYGON ((");
+    line.push_many("0 0, ", n);
+    line.push(end);
+    line
 }
 
 // From the lower left corner of the grid 255 steps up to the right, and back over the upper left.
-fn steps() -> [f32; MOST_COORDINATES]
-    ensures { length result ≡ most_coordinates }
-{
-    let mut coords = no_floats();
+fn steps() -> [f32; MOST_COORDINATES] {
+    let mut coords = [0.0f32; MOST_COORDINATES];
+    let (steps, _) = coords.as_chunks_mut::<4>();
     let mut low = -1024.0f32;
-    for i in 0..255 {
-        coords[4 * i] = low;
-        coords[4 * i + 1] = low;
-        coords[4 * i + 2] = low + 1.0;
-        coords[4 * i + 3] = low;
-        low = low + 1.0;
+    for step in steps {
+        *step = [low, low, low + 1.0, low];
+        low += 1.0;
     }
-    coords[1020] = low;
-    coords[1021] = low;
-    coords[1022] = -1024.0;
-    coords[1023] = low;
+    coords[MOST_COORDINATES - 2] = -1024.0;
     coords
 }
 
 // A POLYGON line of 512 corners that can be filled.
-pub fn stairs(line: &mut [u8]) -> usize
-    ensures { result ≤ length line.old }
-{
-    let n = wide(write_polygon(&steps(), line).count);
-    if n <= line.len() { n } else { 0 }
+pub fn stairs() -> Line {
+    let mut line = Line::new();
+    let count = write_polygon(&steps(), &mut line.bytes).unwrap_or(0);
+    line.count = MOST_BYTES.min(count as usize);
+    line
 }

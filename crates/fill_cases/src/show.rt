@@ -1,103 +1,67 @@
 // Fills a line by both plans, writes it back, and prints what came of it.
-use entries::{Answer, no_floats, wide};
+use entries::{MOST_COORDINATES, Refusal};
 use fill_line::{fill_areas, fill_triangles, text_room};
 use std::io;
 use wkt::read::read_polygon;
 use wkt::write::write_polygon;
 
-pub fn text(rt: &impl Print, t: &[u8]) -> io::Result<()> {
-    rt.write_all(t)
-}
+// As many bytes of an answer are printed; of a longer one there is only the size.
+const MOST_PRINTED: usize = 1000;
 
-fn number(rt: &impl Print, n: u32) -> io::Result<()> {
-    rt.print(n)
-}
-
-// The front of some bytes, or all where there are fewer.
-pub fn front(bytes: &[u8], n: usize) -> &[u8] {
-    if n <= bytes.len() { &bytes[..n] } else { bytes }
-}
-
-// What came back: a refusal, or the text, of which only the size where that is asked.
-fn answered(
-    rt: &impl Print,
-    plan: &[u8],
-    r: Answer,
-    out: &[u8],
-    size_only: bool,
-) -> io::Result<()> {
-    text(rt, plan)?;
-    if r.number != 0 {
-        text(rt, b"refused, ")?;
-        number(rt, r.number)?;
-    } else if size_only {
-        number(rt, r.count)?;
-        text(rt, b" bytes")?;
-    } else {
-        text(rt, front(out, wide(r.count)))?;
+// What came of a plan: a refusal, or the text.
+fn tell(rt: &impl Print, plan: &str, filled: Result<u32, Refusal>, out: &[u8]) -> io::Result<()> {
+    let text = match filled {
+        Ok(count) => &out[..out.len().min(count as usize)],
+        Err(refusal) => return println!(rt; "{plan}: refused, {refusal}"),
+    };
+    if MOST_PRINTED < text.len() {
+        return println!(rt; "{plan}: {} bytes", text.len());
     }
-    text(rt, b"\n")
+    print!(rt; "{plan}: ")?;
+    rt.write_all(text)?;
+    println!(rt)
 }
 
 // Whether a line that is read and written gives the same bytes; nothing where one of the two refuses.
-fn written_back(rt: &impl Print, line: &[u8]) -> io::Result<()> {
-    let mut coords = no_floats();
-    let read = read_polygon(line, &mut coords);
-    let n = wide(read.count);
-    if read.number != 0 {
-        return Ok(());
-    }
-    if 512 < n {
-        return Ok(());
-    }
+fn written_back(line: &[u8]) -> Option<bool> {
+    let mut coords = [0.0f32; MOST_COORDINATES];
+    let corners = read_polygon(line, &mut coords).ok()?;
+    let coords = coords.get(..2 * corners as usize)?;
     let mut out = text_room();
-    let wrote = write_polygon(&coords[..2 * n], &mut out);
-    if wrote.number != 0 {
-        return Ok(());
-    }
-    if front(&out, wide(wrote.count)) == line {
-        text(rt, b"  written back: the same bytes\n")
-    } else {
-        text(rt, b"  written back: other bytes\n")
-    }
+    let count = write_polygon(coords, &mut out).ok()?;
+    Some(out.get(..count as usize)? == line)
 }
 
-fn both(rt: &impl Print, line: &[u8], size_only: bool) -> io::Result<()> {
+fn both(rt: &impl Print, line: &[u8]) -> io::Result<()> {
     let mut out = text_room();
-    answered(
-        rt,
-        b"  areas: ",
-        fill_areas(line, &mut out),
-        &out,
-        size_only,
-    )?;
-    answered(
-        rt,
-        b"  triangles: ",
-        fill_triangles(line, &mut out),
-        &out,
-        size_only,
-    )?;
-    written_back(rt, line)
+    let areas = fill_areas(line, &mut out);
+    tell(rt, "  areas", areas, &out)?;
+    let triangles = fill_triangles(line, &mut out);
+    tell(rt, "  triangles", triangles, &out)?;
+    match written_back(line) {
+        Some(true) => println!(rt; "  written back: the same bytes"),
+        Some(false) => println!(rt; "  written back: other bytes"),
+        None => Ok(()),
+    }
 }
 
 // A line whose areas are written to so much room.
-pub fn with_room(rt: &impl Print, name: &[u8], line: &[u8], out: &mut [u8]) -> io::Result<()> {
-    answered(rt, name, fill_areas(line, out), out, false)
+pub fn fill_with_room(rt: &impl Print, name: &str, line: &str, out: &mut [u8]) -> io::Result<()> {
+    let areas = fill_areas(line.as_bytes(), out);
+    tell(rt, name, areas, out)
 }
 
-// A line that is printed itself.
-pub fn lines(rt: &impl Print, line: &[u8]) -> io::Result<()> {
-    text(rt, line)?;
-    text(rt, b"\n")?;
-    both(rt, line, false)
+// Lines that are printed themselves.
+pub fn fill_each(rt: &impl Print, lines: &[&str]) -> io::Result<()> {
+    for line in lines {
+        println!(rt; "{line}")?;
+        both(rt, line.as_bytes())?;
+    }
+    Ok(())
 }
 
 // A line that is printed by a name and its size.
-pub fn named(rt: &impl Print, name: &[u8], line: &[u8]) -> io::Result<()> {
-    text(rt, name)?;
-    text(rt, b", ")?;
-    rt.print(line.len())?;
-    text(rt, b" bytes\n")?;
-    both(rt, line, true)
+pub fn fill_named(rt: &impl Print, name: &str, line: &[u8]) -> io::Result<()> {
+    println!(rt; "{name}, {} bytes", line.len())?;
+    both(rt, line)
 }

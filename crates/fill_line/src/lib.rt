@@ -1,15 +1,17 @@
 // What the program `fill` does with a line: the outline is read, cut, merged or not, and written.
 #![tactic(auto)]
 
-ghost use Rattle.std.specs.Prelude.{◌≡◌, ◌≤◌, length, take};
+ghost use Rattle.std.specs.Prelude.{◌≡◌, ◌≤◌, length, IfOk, IfErr};
 ghost use Rattle.rules.specs.Entries.{triangles_for};
 ghost use Rattle.rules.specs.Limits.{most_points, most_coordinates, most_indices};
 ghost use Rattle.rules.specs.Lines.{areas_for, fill_room, Fills};
+ghost use Rattle.entries.specs.Refusals.{number_of, answer_of};
 ghost use Rattle.wkt.specs.Promise.{writing_of};
-ghost use Rattle.fill_line.specs.CutLine.{lent_for, CutLine};
+ghost use Rattle.fill_line.specs.CutLine.{lent_for, LineRefused, LineCut};
 
 use ear_clipping::triangulate_ear_clipping;
-use entries::{Answer, MOST_INDICES, MOST_TRIANGLES, no_floats, threes, wide, zeros};
+use entries::{MOST_COORDINATES, MOST_INDICES, MOST_TRIANGLES, Refusal};
+use grid::points::Points;
 use hertel_mehlhorn::hertel_mehlhorn_idx;
 use wkt::read::read_polygon;
 use wkt::write::write_multipolygon;
@@ -21,7 +23,7 @@ pub const MOST_TEXT: usize = 15 + 56 * MOST_TRIANGLES;
 pub fn text_room() -> [u8; MOST_TEXT]
     ensures { length result ≡ fill_room most_points }
 {
-    [0u8; MOST_TEXT]
+    [0; MOST_TEXT]
 }
 
 // How much room is asked for n corners.
@@ -29,7 +31,7 @@ fn fill_room(n: usize) -> usize
     requires { n ≤ most_points }
     ensures { result ≡ fill_room n }
 {
-    if n < 2 { 15 } else { 15 + 56 * (n - 2) }
+    15 + 56 * n.saturating_sub(2)
 }
 
 // How many indices are lent to the cutter. Where there is no room for the text it gets none, and so says 6 in its place.
@@ -40,69 +42,63 @@ fn lent(n: usize, room: usize) -> usize
     if room < fill_room(n) { 0 } else { MOST_INDICES }
 }
 
-// Reads a line and cuts its outline, for an answer of so many bytes: coordinates and indices stand at the front of what is lent.
-fn cut_line(line: &[u8], room: usize, coords: &mut [f32], indices: &mut [u32]) -> Answer
-    requires coords_len { length coords.old ≡ most_coordinates }
-    requires indices_len { length indices.old ≡ most_indices }
-    ensures { CutLine line.now room result coords.new indices.new }
+// The outline of a line, and the triangles that it is cut into, three indices each.
+#[derive(Clone, Copy)]
+struct Cut<'a> {
+    points: Points<'a>,
+    triangles: &'a [u32],
+}
+
+// Reads a line and cuts its outline, for an answer of so many bytes.
+fn cut_line<'a>(
+    line: &[u8],
+    room: usize,
+    coords: &'a mut [f32],
+    indices: &'a mut [u32],
+) -> Result<Cut<'a>, Refusal>
+    requires coords { length coords.old ≡ most_coordinates }
+    requires indices { length indices.old ≡ most_indices }
+    ensures refused { IfErr result (λ refusal. LineRefused line.now room (number_of refusal)) }
+    ensures cut { IfOk result (λ cut. LineCut line.now room cut.points.coords.now cut.triangles.now) }
 {
-    let read = read_polygon(line, coords);
-    let number = read.number;
-    if number != 0 {
-        return Answer { number, count: 0 };
-    }
-    let n = wide(read.count);
+    let n = read_polygon(line, coords)? as usize;
     let k = lent(n, room);
-    triangulate_ear_clipping(&coords[..2 * n], &mut indices[..k])
+    let m = triangulate_ear_clipping(&coords[..2 * n], &mut indices[..k])? as usize;
+    Ok(Cut {
+        points: Points {
+            coords: &coords[..2 * n],
+        },
+        triangles: &indices[..3 * m],
+    })
 }
 
 // Fills the outline of a POLYGON line with triangles, written as a MULTIPOLYGON line: metrology's plan.
-pub fn fill_triangles(line: &[u8], out: &mut [u8]) -> Answer
-    ensures fills { Fills triangles_for line.now out.old (writing_of result out.new) }
-    ensures count_in_bounds { result.count ≤ length out.old }
+pub fn fill_triangles(line: &[u8], out: &mut [u8]) -> Result<u32, Refusal>
+    ensures fills { Fills triangles_for line.now out.old (writing_of (answer_of result) out.new) }
+    ensures count_in_bounds { IfOk result (λ count. count ≤ length out.old) }
 {
-    let mut coords = no_floats();
-    let mut indices = zeros();
-    let cut = cut_line(line, out.len(), &mut coords, &mut indices);
-    let number = cut.number;
-    if number != 0 {
-        return Answer { number, count: 0 };
-    }
-    let m = wide(cut.count);
-    let lengths = threes();
-    let end = write_multipolygon(&coords[..2 * m + 4], &indices[..3 * m], &lengths[..m], out);
-    Answer {
-        number: 0,
-        count: end as u32,
-    }
+    let mut coords = [0.0f32; MOST_COORDINATES];
+    let mut indices = [0u32; MOST_INDICES];
+    let cut = cut_line(line, out.len(), &mut coords, &mut indices)?;
+    let lengths = [3u32; MOST_TRIANGLES];
+    let count = cut.triangles.len() / 3;
+    let end = write_multipolygon(&cut.points, cut.triangles, &lengths[..count], out);
+    Ok(end as u32)
 }
 
 // Fills the outline of a POLYGON line with convex areas, written as a MULTIPOLYGON line: the crews' plan. What the cutter has written is
 // never refused by the merger.
-pub fn fill_areas(line: &[u8], out: &mut [u8]) -> Answer
-    ensures fills { Fills areas_for line.now out.old (writing_of result out.new) }
-    ensures count_in_bounds { result.count ≤ length out.old }
+pub fn fill_areas(line: &[u8], out: &mut [u8]) -> Result<u32, Refusal>
+    ensures fills { Fills areas_for line.now out.old (writing_of (answer_of result) out.new) }
+    ensures count_in_bounds { IfOk result (λ count. count ≤ length out.old) }
 {
-    let mut coords = no_floats();
-    let mut triangles = zeros();
-    let cut = cut_line(line, out.len(), &mut coords, &mut triangles);
-    let number = cut.number;
-    if number != 0 {
-        return Answer { number, count: 0 };
-    }
-    let m = wide(cut.count);
-    let mut indices = zeros();
-    let mut lengths = threes();
-    let merged = hertel_mehlhorn_idx(
-        &coords[..2 * m + 4],
-        &triangles[..3 * m],
-        &mut indices,
-        &mut lengths,
-    );
-    let count = wide(merged.count);
-    let end = write_multipolygon(&coords[..2 * m + 4], &indices, &lengths[..count], out);
-    Answer {
-        number: 0,
-        count: end as u32,
-    }
+    let mut coords = [0.0f32; MOST_COORDINATES];
+    let mut triangles = [0u32; MOST_INDICES];
+    let cut = cut_line(line, out.len(), &mut coords, &mut triangles)?;
+    let mut indices = [0u32; MOST_INDICES];
+    let mut lengths = [0u32; MOST_TRIANGLES];
+    let merged = hertel_mehlhorn_idx(cut.points.coords, cut.triangles, &mut indices, &mut lengths);
+    let count = merged.unwrap() as usize;
+    let end = write_multipolygon(&cut.points, &indices, &lengths[..count], out);
+    Ok(end as u32)
 }

@@ -11,22 +11,11 @@ const MOST: u32 = 8388608;
 fn guessed() -> u32
     ensures { result ≤ 8388608 }
 {
-    let mut n = 0;
-    for m in 1..=MOST {
-        if is_guessed(m) {
-            n += 1;
-        }
-    }
-    n
-}
-
-fn line(rt: &impl Print, what: &[u8], n: u32) -> io::Result<()> {
-    rt.write_all(what)?;
-    rt.println(n)
+    (1..=MOST).filter(|m| is_guessed(*m)).count() as u32
 }
 
 fn main(rt: HostRuntime) -> io::Result<()> {
     let n = guessed();
-    line(&rt, b"roots guessed: ", n)?;
-    line(&rt, b"roots worked out digit by digit: ", MOST - n)
+    println!(rt; "roots guessed: {n}")?;
+    println!(rt; "roots worked out digit by digit: {}", MOST - n)
 }

@@ -1,21 +1,19 @@
 -- The point tests' promise over the bytes.
 use mathlib.Core.Path.{◌≡◌, ◌∙◌, ap}
 use mathlib.Core.List.{List}
+use Rattle.std.specs.Prelude.{Result}
 use lib.Ieee.{Float}
 use Rattle.rules.specs.Plane.{Pt}
 use Rattle.rules.specs.Border.{Position, position_number}
 use Rattle.rules.specs.Entries.{asking}
-use Rattle.point_in_poly2d.specs.Verdicts.{number_of, answer_of, verdict}
-use Rattle.point_in_poly2d.specs.declared.Verdict as Inner
-use Rattle.point_in_poly2d.proofs.Asked.{verdict-number, verdict-answer}
+use Rattle.entries.specs.declared.Refusal.{Refusal}
+use Rattle.entries.specs.Refusals.{refused}
+use Rattle.point_in_poly2d.specs.Positions.{answer_of, Answered}
+use Rattle.point_in_poly2d.specs.declared.Position as Inner
 use Rattle.hasplight.specs.Promise.{PointGives}
 use Rattle.hasplight.specs.declared.Verdict.{Verdict}
 
 module _ (test : Pt → List Pt → Position) (x y : Float) (cs : List Float) where
-  -- a verdict told as two numbers
-  pub asked-told : (v : Inner.Verdict) (r : Verdict) → v ≡ verdict (asking test x y cs) → (r.number ≡ number_of v) × (r.answer ≡ position_number (answer_of v)) → PointGives test x y cs r
-  asked-told v r is (i, j) =
-      record {
-        number = i ∙ ap number_of is ∙ verdict-number (asking test x y cs);
-        answer = j ∙ ap (λ (v : Inner.Verdict). position_number (answer_of v)) is ∙ ap position_number (verdict-answer test x y cs);
-      }
+  -- what is answered told as two numbers
+  pub asked-told : (asked : Result Inner.Position Refusal) (r : Verdict) → Answered (asking test x y cs) asked → (r.number ≡ refused asked) × (r.answer ≡ position_number (answer_of asked)) → PointGives test x y cs r
+  asked-told asked r is (i, j) = record { number = i ∙ is.number; answer = j ∙ ap position_number is.answer }

@@ -141,18 +141,17 @@ module _ (cs : List Float) (tri indices lengths : List ℕ) where
   refused_count n e d = before_triangles_lem (front_gives (list_front cs (length tri)) (front_gives (count-front 0 most_points cs) e d) d) d
 
   -- more indices than the most triangles have
-  pub refused_long :
-      (fs : List Float) (t n : ℕ) → fs ≡ cs → t ≡ length tri → most_indices < t → n ≡ first_refusal (before_triangles fs t)
-      → MergerGives cs tri indices lengths (record { number = n; count = 0 }) indices lengths
-  refused_long fs t n same m long e =
-      let is : n ≡ first_refusal (before_triangles cs (length tri)) = rw (m, same) at e in
-      before_triangles_lem is (λ z. too_long (sym is ∙ z))
-    where
-      too_long : first_refusal (before_triangles cs (length tri)) ≡ 0 → ⊥
-      too_long z =
-          let first = front_none (list_front cs (length tri)) z in
-          let l = whole_list (length tri) (sym (others_decide (list_front cs (length tri)) first) ∙ z) in
-          omega (arith, l.0, l.1, m, long)
+  module _ (fs : List Float) (t : ℕ) (same : fs ≡ cs) (m : t ≡ length tri) where
+    pub too_long : most_indices < t → 0 ≡ first_refusal (before_triangles fs t) → ⊥
+    too_long long z =
+        let first = front_none (list_front fs t) (sym z) in
+        let l = whole_list t (sym (others_decide (list_front fs t) first) ∙ sym z) in
+        omega (arith, l.0, l.1, long)
+
+    pub refused_long : {n : ℕ} → n ≡ first_refusal (before_triangles fs t) → n ≢ 0 → MergerGives cs tri indices lengths (record { number = n; count = 0 }) indices lengths
+    refused_long {n = n} e d =
+        let is : n ≡ first_refusal (before_triangles cs (length tri)) = rw (m, same) at e in
+        before_triangles_lem is d
 
 -- the merger is lent the first words of two rooms of the most indices
 pub record Lent (cs : List Float) (tri indices lengths out sizes : List ℕ) (room places : ℕ) (a : Answer) (after after-lengths : List ℕ) : Type 0 where
@@ -162,6 +161,12 @@ pub record Lent (cs : List Float) (tri indices lengths out sizes : List ℕ) (ro
   pub out_size : length out ≡ most_indices
   pub sizes_size : length sizes ≡ most_indices
   pub promise : Promise cs tri (take room out) (take places sizes) a after after-lengths
+
+pub lent_to :
+    {cs : List Float} {tri : List ℕ} (indices lengths : List ℕ) {out sizes : List ℕ} {room places : ℕ} {a b : Answer} {after after-lengths : List ℕ} → length tri ≤ most_indices
+    → room ≡ least_of (length indices / 4) → places ≡ least_of (length lengths / 4) → length out ≡ most_indices → length sizes ≡ most_indices → a ≡ b
+    → Promise cs tri (take room out) (take places sizes) b after after-lengths → Lent cs tri indices lengths out sizes room places a after after-lengths
+lent_to indices lengths few r p o s e promise = record { few = few; room_is = r; places_is = p; out_size = o; sizes_size = s; promise = rw e promise }
 
 module _ {cs : List Float} {tri indices lengths out sizes : List ℕ} {room places : ℕ} {a : Answer} {after after-lengths : List ℕ}
     (l : Lent cs tri indices lengths out sizes room places a after after-lengths) where

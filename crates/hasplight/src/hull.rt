@@ -3,10 +3,9 @@ ghost use Rattle.std.specs.Prelude.{◌≤◌, length};
 ghost use Rattle.rules.specs.Limits.{most_coordinates};
 ghost use Rattle.hasplight.specs.Promise.{HullGives, HullPromise};
 
+use crate::read;
 use crate::room::least;
-use entries::{Answer, MOST_POINTS, no_floats, wide, zeros};
-use grid::outline::count_refusal;
-use words::{read_floats, write_words};
+use entries::{Answer, MOST_COORDINATES, MOST_INDICES};
 
 // Finds the hull, and writes what is reported as bytes.
 fn hull(floats: &[f32], indices: &mut [u8]) -> Answer
@@ -14,21 +13,18 @@ fn hull(floats: &[f32], indices: &mut [u8]) -> Answer
     ensures { HullGives floats.now indices.old result indices.new }
 {
     let room = least(indices.len() / 4);
-    let mut out = zeros();
-    let a = convex_hull2::convex_hull2_idx(floats, &mut out[..room]);
-    write_words(&out, wide(a.count), indices);
+    let mut out = [0u32; MOST_INDICES];
+    let a = Answer::from(convex_hull2::convex_hull2_idx(floats, &mut out[..room]));
+    words::write(&out[..a.count as usize], indices);
     a
 }
 
 pub fn hasplight_convex_hull2_idx(coords: &[u8], indices: &mut [u8]) -> Answer
     ensures { HullPromise coords.now indices.old result indices.new }
 {
-    let n = coords.len() / 4;
-    let number = count_refusal(2, MOST_POINTS, n);
-    if number != 0 {
-        return Answer { number, count: 0 };
+    let mut room = [0.0f32; MOST_COORDINATES];
+    match read(2, coords, &mut room) {
+        Ok(floats) => hull(floats, indices),
+        Err(refusal) => Answer::from(Err(refusal)),
     }
-    let mut floats = no_floats();
-    read_floats(coords, &mut floats);
-    hull(&floats[..n], indices)
 }

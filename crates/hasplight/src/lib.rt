@@ -6,16 +6,19 @@ pub mod hull;
 mod room;
 pub mod text;
 
-ghost use Rattle.std.specs.Prelude.{◌≡◌, ◌≤◌, length};
-ghost use Rattle.rules.specs.Limits.{most_coordinates, most_indices};
+ghost use Rattle.std.specs.Prelude.{◌≡◌, ◌≤◌, length, IfOk};
+ghost use Rattle.rules.specs.Limits.{most_points, most_coordinates, most_indices};
+ghost use Rattle.rules.specs.Refusals.{first_refusal, count_checks};
+ghost use Rattle.words.specs.Bytes.{words_of, floats_of};
 ghost use Rattle.rules.specs.Border.{position_number, position, convex_position};
-ghost use Rattle.point_in_poly2d.specs.Verdicts.{number_of, answer_of, test_of};
+ghost use Rattle.entries.specs.Refusals.{refused};
+ghost use Rattle.point_in_poly2d.specs.Positions.{answer_of, test_of};
 ghost use Rattle.hasplight.specs.Promise.{CutterGives, CutterPromise, MergerGives, MergerPromise, PointPromise};
 
-use entries::{Answer, MOST_INDICES, MOST_POINTS, no_floats, wide, zeros};
-use grid::outline::count_refusal;
+use entries::{Answer, MOST_COORDINATES, MOST_INDICES, MOST_POINTS, Refusal};
+use grid::outline::check_count;
+use point_in_poly2d::Position;
 use room::{corners, least, tripled};
-use words::{read_floats, read_words, write_words};
 
 // The number of a refusal, and 0 for outside or refused, 1 for inside, 2 for border.
 #[repr(C)]
@@ -25,29 +28,39 @@ pub struct Verdict {
     pub answer: u32,
 }
 
+// Reads the coordinates of at least so many points, if their number is not refused.
+fn read<'a>(least: usize, coords: &[u8], room: &'a mut [f32]) -> Result<&'a [f32], Refusal>
+    requires { length room.old ≡ most_coordinates }
+    ensures number { refused result ≡ first_refusal (count_checks least most_points (length (floats_of coords.now))) }
+    ensures floats { IfOk result (λ floats. floats.now ≡ floats_of coords.now) }
+    ensures few { IfOk result (λ floats. length floats.now ≤ most_coordinates) }
+{
+    let n = coords.len() / 4;
+    check_count(least, MOST_POINTS, n)?;
+    words::read(coords, room);
+    Ok(&room[..n])
+}
+
 // Cuts, and writes what is reported as bytes.
 fn cut(floats: &[f32], indices: &mut [u8]) -> Answer
     requires { length floats.now ≤ most_coordinates }
     ensures { CutterGives floats.now indices.old result indices.new }
 {
     let room = least(indices.len() / 4);
-    let mut out = zeros();
-    let a = ear_clipping::triangulate_ear_clipping(floats, &mut out[..room]);
-    write_words(&out, tripled(a.count), indices);
+    let mut out = [0u32; MOST_INDICES];
+    let a = Answer::from(ear_clipping::triangulate_ear_clipping(floats, &mut out[..room]));
+    words::write(&out[..tripled(a.count)], indices);
     a
 }
 
 pub fn hasplight_triangulate_ear_clipping(coords: &[u8], indices: &mut [u8]) -> Answer
     ensures { CutterPromise coords.now indices.old result indices.new }
 {
-    let n = coords.len() / 4;
-    let number = count_refusal(3, MOST_POINTS, n);
-    if number != 0 {
-        return Answer { number, count: 0 };
+    let mut room = [0.0f32; MOST_COORDINATES];
+    match read(3, coords, &mut room) {
+        Ok(floats) => cut(floats, indices),
+        Err(refusal) => Answer::from(Err(refusal)),
     }
-    let mut floats = no_floats();
-    read_floats(coords, &mut floats);
-    cut(&floats[..n], indices)
 }
 
 // Merges, and writes what is reported as bytes.
@@ -57,17 +70,38 @@ fn merge(floats: &[f32], given: &[u32], indices: &mut [u8], lengths: &mut [u8]) 
 {
     let room = least(indices.len() / 4);
     let places = least(lengths.len() / 4);
-    let mut out = zeros();
-    let mut sizes = zeros();
-    let a = hertel_mehlhorn::hertel_mehlhorn_idx(
+    let mut out = [0u32; MOST_INDICES];
+    let mut sizes = [0u32; MOST_INDICES];
+    let a = Answer::from(hertel_mehlhorn::hertel_mehlhorn_idx(
         floats,
         given,
         &mut out[..room],
         &mut sizes[..places],
-    );
-    write_words(&out, corners(a.number, given.len(), a.count), indices);
-    write_words(&sizes, wide(a.count), lengths);
+    ));
+    words::write(&out[..corners(a.number, given.len(), a.count)], indices);
+    words::write(&sizes[..a.count as usize], lengths);
     a
+}
+
+// Reads the triangles and merges them, if there are not too many.
+fn merge_triangles(
+    floats: &[f32],
+    triangles: &[u8],
+    indices: &mut [u8],
+    lengths: &mut [u8],
+) -> Answer
+    ensures { MergerGives floats.now (words_of triangles.now) indices.old lengths.old result indices.new lengths.new }
+{
+    let t = triangles.len() / 4;
+    if MOST_INDICES < t {
+        return match hertel_mehlhorn::check_before_triangles(floats, t) {
+            Err(refusal) => Answer::from(Err(refusal)),
+            Ok(_) => unreachable!(),
+        };
+    }
+    let mut given = [0u32; MOST_INDICES];
+    words::read(triangles, &mut given);
+    merge(floats, &given[..t], indices, lengths)
 }
 
 pub fn hasplight_hertel_mehlhorn_idx(
@@ -78,41 +112,29 @@ pub fn hasplight_hertel_mehlhorn_idx(
 ) -> Answer
     ensures { MergerPromise coords.now triangles.now indices.old lengths.old result indices.new lengths.new }
 {
-    let n = coords.len() / 4;
-    let number = count_refusal(0, MOST_POINTS, n);
-    if number != 0 {
-        return Answer { number, count: 0 };
+    let mut room = [0.0f32; MOST_COORDINATES];
+    match read(0, coords, &mut room) {
+        Ok(floats) => merge_triangles(floats, triangles, indices, lengths),
+        Err(refusal) => Answer::from(Err(refusal)),
     }
-    let mut floats = no_floats();
-    read_floats(coords, &mut floats);
-    let t = triangles.len() / 4;
-    if MOST_INDICES < t {
-        let number = hertel_mehlhorn::early_refusal(&floats[..n], t);
-        return Answer { number, count: 0 };
-    }
-    let mut given = zeros();
-    read_words(triangles, &mut given);
-    merge(&floats[..n], &given[..t], indices, lengths)
 }
 
-// A point test's verdict as two numbers.
-fn told(v: point_in_poly2d::Verdict) -> Verdict
-    ensures { (result.number ≡ number_of v) × (result.answer ≡ position_number (answer_of v)) }
-{
-    match v {
-        point_in_poly2d::Verdict::Refused(number) => Verdict { number, answer: 0 },
-        point_in_poly2d::Verdict::Outside => Verdict {
-            number: 0,
-            answer: 0,
-        },
-        point_in_poly2d::Verdict::Inside => Verdict {
-            number: 0,
-            answer: 1,
-        },
-        point_in_poly2d::Verdict::Border => Verdict {
-            number: 0,
-            answer: 2,
-        },
+// What a point test answers.
+impl From<Result<Position, Refusal>> for Verdict {
+    ghost from_gives = { λ asked verdict. (verdict.number ≡ refused asked) × (verdict.answer ≡ position_number (answer_of asked)) };
+
+    fn from(asked: Result<Position, Refusal>) -> Verdict {
+        let number = match asked {
+            Ok(_) => 0,
+            Err(refusal) => refusal.into(),
+        };
+        let answer = match asked {
+            Err(_) => 0,
+            Ok(Position::Outside) => 0,
+            Ok(Position::Inside) => 1,
+            Ok(Position::Border) => 2,
+        };
+        Verdict { number, answer }
     }
 }
 
@@ -120,7 +142,7 @@ fn told(v: point_in_poly2d::Verdict) -> Verdict
 fn ask(x: f32, y: f32, coords: &[u8], convex: bool) -> Verdict
     ensures { PointPromise (test_of convex) x y coords.now result }
 {
-    told(point_in_poly2d::bytes::ask(x, y, coords, convex))
+    Verdict::from(point_in_poly2d::bytes::ask(x, y, coords, convex))
 }
 
 pub fn hasplight_point_in_poly2d(x: f32, y: f32, coords: &[u8]) -> Verdict

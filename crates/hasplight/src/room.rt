@@ -3,21 +3,21 @@ ghost use Rattle.std.specs.Prelude.{◌≡◌, ◌*◌, ◌≤◌};
 ghost use Rattle.rules.specs.Limits.{most_indices};
 ghost use Rattle.hasplight.specs.Promise.{least_of, corners_of};
 
-use entries::{MOST_INDICES, wide};
+use entries::MOST_INDICES;
 
 // n, or the most that is ever asked for where it is more.
 pub fn least(n: usize) -> usize
     ensures value { result ≡ least_of n }
     ensures upper_bound { result ≤ most_indices }
 {
-    if n < MOST_INDICES { n } else { MOST_INDICES }
+    n.min(MOST_INDICES)
 }
 
 // Three indices for each triangle.
 pub fn tripled(count: u32) -> usize
     ensures { result ≡ 3 * count }
 {
-    3 * wide(count)
+    3 * count as usize
 }
 
 // How many indices a merge of t indices has written: each piece has two corners more than it has triangles.
@@ -28,5 +28,5 @@ pub fn corners(number: u32, t: usize, count: u32) -> usize
     if number != 0 {
         return 0;
     }
-    t / 3 + 2 * wide(count)
+    t / 3 + 2 * count as usize
 }

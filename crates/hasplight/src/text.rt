@@ -9,12 +9,12 @@ use entries::Answer;
 pub fn hasplight_fill_areas(line: &[u8], out: &mut [u8]) -> Answer
     ensures { Fills areas_for line.now out.old (writing_of result out.new) }
 {
-    fill_line::fill_areas(line, out)
+    Answer::from(fill_line::fill_areas(line, out))
 }
 
 // By triangles.
 pub fn hasplight_fill_triangles(line: &[u8], out: &mut [u8]) -> Answer
     ensures { Fills triangles_for line.now out.old (writing_of result out.new) }
 {
-    fill_line::fill_triangles(line, out)
+    Answer::from(fill_line::fill_triangles(line, out))
 }

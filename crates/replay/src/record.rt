@@ -10,212 +10,203 @@
 //
 // The lent parts are as they must be after the call; before it they hold 90 everywhere. A record of the root says it of a radicand and of
 // those that follow it, as many as its count.
-ghost use Rattle.std.specs.Prelude.{◌≡◌, ◌≤◌, length};
+ghost use Rattle.std.specs.Prelude.{◌+◌, ◌≤◌, length, IfOk, IfSome};
 
-fn lent() -> [u8; 8192]
-    ensures { length result ≡ 8192 }
-{
-    [90u8; 8192]
+use entries::Answer;
+use hasplight::hull::hasplight_convex_hull2_idx;
+use hasplight::{
+    Verdict, hasplight_hertel_mehlhorn_idx, hasplight_point_in_convex_poly2d,
+    hasplight_point_in_poly2d, hasplight_triangulate_ear_clipping,
+};
+use radicands::hasplight_root;
+
+// How many bytes the seven numbers take.
+const HEADER: usize = 28;
+
+// How many bytes a part has at most.
+const MOST_BYTES: usize = 8192;
+
+#[derive(Clone, Copy)]
+enum Entry {
+    Cutter,
+    Merger,
+    PointTest,
+    ConvexTest,
+    Root,
+    Hull,
 }
 
-fn same(a: &[u8], b: &[u8]) -> bool {
-    a == b
+// The seven numbers, of parts that the entry takes.
+#[derive(Clone, Copy)]
+struct Header {
+    entry: Entry,
+    coords: usize,
+    given: usize,
+    indices: usize,
+    lengths: usize,
+    number: u32,
+    count: u32,
+    ghost short_indices: { indices ≤ 8192 },
+    ghost short_lengths: { lengths ≤ 8192 },
 }
 
-// What stands from a place on, or nothing where there is no such place.
-pub fn rest(list: &[u8], from: usize) -> &[u8] {
-    if from <= list.len() {
-        &list[from..]
-    } else {
-        &list[..0]
-    }
+#[derive(Clone, Copy)]
+pub struct Record<'a> {
+    entry: Entry,
+    coords: &'a [u8],
+    given: &'a [u8],
+    indices: &'a [u8],
+    lengths: &'a [u8],
+    number: u32,
+    count: u32,
+    ghost short_indices: { length indices.now ≤ 8192 },
+    ghost short_lengths: { length lengths.now ≤ 8192 },
 }
 
-// The first n bytes, or all where there are fewer.
-fn front(list: &[u8], n: usize) -> &[u8] {
-    if n <= list.len() { &list[..n] } else { list }
+// Why there is no record: what stands in its place is none.
+#[derive(Clone, Copy)]
+pub struct NoRecord;
+
+// Number i of some bytes, or 0 where they end before that.
+fn number(bytes: &[u8], i: usize) -> u32 {
+    let (numbers, _) = bytes.as_chunks::<4>();
+    numbers
+        .get(i)
+        .map_or(0, |number| u32::from_le_bytes(*number))
 }
 
-// Number i of the bytes, or 0 where they end before that.
-fn number(bytes: &[u8], i: usize) -> u32
-    requires { i ≤ 2048 }
-{
-    if i * 4 + 3 < bytes.len() {
-        words::word(bytes, i)
-    } else {
-        0
-    }
-}
-
-// How many bytes part i has: at most 8192.
-fn bytes(record: &[u8], i: usize) -> usize
-    requires { i ≤ 4 }
-    ensures { result ≤ 8192 }
-{
-    let n = number(record, i) as usize;
-    if n <= 8192 { n } else { 8192 }
-}
-
-// Whether all four parts are short enough.
-fn short(record: &[u8]) -> bool {
-    number(record, 1) <= 8192
-        && number(record, 2) <= 8192
-        && number(record, 3) <= 8192
-        && number(record, 4) <= 8192
-}
-
-// Whether a record has the parts that its entry takes.
-pub fn formed(record: &[u8]) -> bool {
-    if !short(record) {
-        return false;
-    }
-    let given = number(record, 2);
-    let indices = number(record, 3);
-    let lengths = number(record, 4);
-    match number(record, 0) {
-        1 | 6 => given == 0 && lengths == 0,
-        2 => true,
-        3 | 4 => given == 8 && indices == 0 && lengths == 0,
-        5 => number(record, 1) == 0
-            && given == 4
-            && lengths == 0
-            && indices % 4 == 0
-            && number(record, 6) == indices / 4,
-        _ => false,
-    }
-}
-
-// How many bytes a record has.
-pub fn size(record: &[u8]) -> usize
-    ensures lower_bound { 28 ≤ result }
-    ensures upper_bound { result ≤ 32796 }
-{
-    28 + bytes(record, 1) + bytes(record, 2) + bytes(record, 3) + bytes(record, 4)
-}
-
-fn cut(record: &[u8], coords: &[u8], indices: &[u8]) -> bool {
-    let mut all = lent();
-    let room = &mut all[..bytes(record, 3)];
-    let a = hasplight::hasplight_triangulate_ear_clipping(coords, room);
-    if a.number != number(record, 5) {
-        return false;
-    }
-    if a.count != number(record, 6) {
-        return false;
-    }
-    same(room, indices)
-}
-
-fn hull(record: &[u8], coords: &[u8], indices: &[u8]) -> bool {
-    let mut all = lent();
-    let room = &mut all[..bytes(record, 3)];
-    let a = hasplight::hull::hasplight_convex_hull2_idx(coords, room);
-    if a.number != number(record, 5) {
-        return false;
-    }
-    if a.count != number(record, 6) {
-        return false;
-    }
-    same(room, indices)
-}
-
-fn merge(record: &[u8], coords: &[u8], triangles: &[u8], indices: &[u8], lengths: &[u8]) -> bool {
-    let mut all = lent();
-    let mut sizes = lent();
-    let room = &mut all[..bytes(record, 3)];
-    let places = &mut sizes[..bytes(record, 4)];
-    let a = hasplight::hasplight_hertel_mehlhorn_idx(coords, triangles, room, places);
-    if a.number != number(record, 5) {
-        return false;
-    }
-    if a.count != number(record, 6) {
-        return false;
-    }
-    if !same(room, indices) {
-        return false;
-    }
-    same(places, lengths)
-}
-
-fn ask(record: &[u8], coords: &[u8], spot: &[u8], convex: bool) -> bool {
-    let x = words::float(number(spot, 0));
-    let y = words::float(number(spot, 1));
-    let v = if convex {
-        hasplight::hasplight_point_in_convex_poly2d(x, y, coords)
-    } else {
-        hasplight::hasplight_point_in_poly2d(x, y, coords)
-    };
-    if v.number != number(record, 5) {
-        return false;
-    }
-    v.answer == number(record, 6)
-}
-
-fn other_root(m: u32, root: u32) -> usize
-    ensures { result ≤ 1 }
-{
-    if words::bits(radicands::hasplight_root(m)) == root {
-        0
-    } else {
-        1
+impl Header {
+    fn read(bytes: &[u8]) -> Result<Header, NoRecord> {
+        let coords = number(bytes, 1) as usize;
+        let given = number(bytes, 2) as usize;
+        let indices = number(bytes, 3) as usize;
+        let lengths = number(bytes, 4) as usize;
+        let count = number(bytes, 6);
+        if MOST_BYTES < coords.max(given).max(indices).max(lengths) {
+            return Err(NoRecord);
+        }
+        let entry = match (number(bytes, 0), given, lengths) {
+            (1, 0, 0) => Entry::Cutter,
+            (2, _, _) => Entry::Merger,
+            (3, 8, 0) if indices == 0 => Entry::PointTest,
+            (4, 8, 0) if indices == 0 => Entry::ConvexTest,
+            (5, 4, 0) if coords == 0 && indices == 4 * count as usize => Entry::Root,
+            (6, 0, 0) => Entry::Hull,
+            _ => return Err(NoRecord),
+        };
+        Ok(Header {
+            entry,
+            coords,
+            given,
+            indices,
+            lengths,
+            number: number(bytes, 5),
+            count,
+        })
     }
 }
 
-// How many of n roots, from one radicand on, do not have the given bits.
-fn other_roots(first: u32, roots: &[u8], n: usize) -> usize
-    requires { n ≤ 2048 }
-    ensures { result ≤ n }
-{
-    let mut m = first;
-    let mut other = 0;
-    for i in 0..n {
-        other += other_root(m, number(roots, i));
-        m = std::num::wrapping_add_u32(m, 1);
+impl<'a> Record<'a> {
+    // The record of these numbers and what stands behind it, where it is whole.
+    fn behind(header: Header, rest: &'a [u8]) -> Option<(Record<'a>, &'a [u8])>
+        ensures { IfSome result (λ p. length p.1.now ≤ length rest.now) }
+    {
+        let (coords, rest) = rest.split_at_checked(header.coords)?;
+        let (given, rest) = rest.split_at_checked(header.given)?;
+        let (indices, rest) = rest.split_at_checked(header.indices)?;
+        let (lengths, rest) = rest.split_at_checked(header.lengths)?;
+        let record = Record {
+            entry: header.entry,
+            coords,
+            given,
+            indices,
+            lengths,
+            number: header.number,
+            count: header.count,
+        };
+        Some((record, rest))
     }
-    other
-}
 
-// How many inputs a record has.
-pub fn inputs(record: &[u8]) -> usize
-    ensures { result ≤ 2048 }
-{
-    if number(record, 0) == 5 {
-        bytes(record, 3) / 4
-    } else {
-        1
+    // The record at the front of some bytes and what stands behind it, or nothing where it is not whole yet.
+    pub fn first(bytes: &'a [u8]) -> Result<Option<(Record<'a>, &'a [u8])>, NoRecord>
+        ensures { IfOk result (λ found. IfSome found (λ p. length p.1.now + 28 ≤ length bytes.now)) }
+    {
+        let Some((header, rest)) = bytes.split_at_checked(HEADER) else {
+            return Ok(None);
+        };
+        Ok(Record::behind(Header::read(header)?, rest))
     }
-}
 
-fn one_unless(good: bool) -> usize
-    ensures { result ≤ 2048 }
-{
-    if good { 0 } else { 1 }
-}
+    // How many inputs it has.
+    pub fn inputs(&self) -> usize
+        ensures { result ≤ 2048 }
+    {
+        match self.entry {
+            Entry::Root => self.indices.len() / 4,
+            _ => 1,
+        }
+    }
 
-// On how many of its inputs an entry does not give back what a record says.
-pub fn different(record: &[u8]) -> usize
-    ensures { result ≤ 2048 }
-{
-    let first = rest(record, 28);
-    let coords = front(first, bytes(record, 1));
-    let second = rest(first, bytes(record, 1));
-    let given = front(second, bytes(record, 2));
-    let third = rest(second, bytes(record, 2));
-    let indices = front(third, bytes(record, 3));
-    let fourth = rest(third, bytes(record, 3));
-    let lengths = front(fourth, bytes(record, 4));
-    let entry = number(record, 0);
-    if entry == 1 {
-        return one_unless(cut(record, coords, indices));
+    // On how many of its inputs an entry does not give back what it says.
+    pub fn different(&self) -> usize
+        ensures { result ≤ 2048 }
+    {
+        let same = match self.entry {
+            Entry::Root => return self.other_roots(),
+            Entry::Cutter => self.is_filled(hasplight_triangulate_ear_clipping),
+            Entry::Hull => self.is_filled(hasplight_convex_hull2_idx),
+            Entry::Merger => self.is_merged(),
+            Entry::PointTest => self.is_told(hasplight_point_in_poly2d),
+            Entry::ConvexTest => self.is_told(hasplight_point_in_convex_poly2d),
+        };
+        usize::from(!same)
     }
-    if entry == 2 {
-        return one_unless(merge(record, coords, given, indices, lengths));
+
+    fn has_answer(&self, answer: Answer) -> bool {
+        answer.number == self.number && answer.count == self.count
     }
-    if entry == 5 {
-        return other_roots(number(given, 0), indices, bytes(record, 3) / 4);
+
+    // Whether an entry that is lent room for indices gives back what the record says.
+    fn is_filled<F: FnOnce(&[u8], &mut [u8]) -> Answer>(&self, entry: F) -> bool
+        requires { F.IsAlwaysCallable entry }
+    {
+        let mut indices = [90u8; MOST_BYTES];
+        let indices = &mut indices[..self.indices.len()];
+        self.has_answer(entry(self.coords, indices)) && *indices == *self.indices
     }
-    if entry == 6 {
-        return one_unless(hull(record, coords, indices));
+
+    fn is_merged(&self) -> bool {
+        let mut indices = [90u8; MOST_BYTES];
+        let mut lengths = [90u8; MOST_BYTES];
+        let indices = &mut indices[..self.indices.len()];
+        let lengths = &mut lengths[..self.lengths.len()];
+        self.has_answer(hasplight_hertel_mehlhorn_idx(self.coords, self.given, indices, lengths))
+            && *indices == *self.indices
+            && *lengths == *self.lengths
     }
-    one_unless(ask(record, coords, given, entry == 4))
+
+    // Whether a point test gives back what the record says.
+    fn is_told<F: FnOnce(f32, f32, &[u8]) -> Verdict>(&self, test: F) -> bool
+        requires { F.IsAlwaysCallable test }
+    {
+        let x = words::float(number(self.given, 0));
+        let y = words::float(number(self.given, 1));
+        let verdict = test(x, y, self.coords);
+        verdict.number == self.number && verdict.answer == self.count
+    }
+
+    // How many of the roots, from the first radicand on, do not have the given bits.
+    fn other_roots(&self) -> usize
+        ensures { result ≤ 2048 }
+    {
+        let first = number(self.given, 0);
+        let (roots, _) = self.indices.as_chunks::<4>();
+        (0..self.count)
+            .zip(roots)
+            .filter(|(i, root)| {
+                let bits = words::bits(hasplight_root(first.wrapping_add(*i)));
+                bits != u32::from_le_bytes(**root)
+            })
+            .count()
+    }
 }

@@ -1,143 +1,93 @@
-// Rings of corner numbers: their coordinates, their doubled areas, and what the outline test says of them.
-ghost use Rattle.std.specs.Prelude.{◌≤◌};
+// Rings of corners: their doubled areas, and what the outline test says of them.
+ghost use Rattle.std.specs.Prelude.{length};
+ghost use Rattle.std.specs.Iterator.{at_most};
 
-use entries::{MOST_COORDINATES, MOST_INDICES, MOST_POINTS, no_floats, wide};
-use point_in_poly2d::{Verdict, point_in_poly2d};
+use entries::MOST_INDICES;
+use point_in_poly2d::{Position, point_in_poly2d};
 
-// What the outline test says of a spot.
 #[derive(Clone, Copy)]
-pub struct Said {
-    pub inside: bool,
-    pub border: bool,
+pub struct Spot {
+    pub x: f32,
+    pub y: f32,
 }
 
-// What the rings of a list come to: whether an odd number of them has a spot inside, whether one has it on its border, their doubled areas' sum,
-// and how many are clockwise.
-#[derive(Clone, Copy)]
-pub struct Sum {
-    pub odd: bool,
-    pub border: bool,
-    pub area: f32,
-    pub clockwise: u32,
-}
-
-// The front of some coordinates, or all where there are fewer.
-pub fn front(coords: &[f32], n: usize) -> &[f32] {
-    if n <= coords.len() {
-        &coords[..n]
-    } else {
-        coords
-    }
-}
-
-// At most so many.
-fn least(n: usize, most: usize) -> usize
-    ensures { result ≤ most }
-{
-    if n <= most { n } else { most }
-}
-
-fn saying(inside: bool, border: bool) -> Said {
-    Said { inside, border }
-}
-
-pub fn ask(x: f32, y: f32, ring: &[f32]) -> Said {
-    match point_in_poly2d(x, y, ring) {
-        Verdict::Refused(_) => saying(false, false),
-        Verdict::Outside => saying(false, false),
-        Verdict::Inside => saying(true, false),
-        Verdict::Border => saying(false, true),
-    }
+// Where a spot is; outside where the question is refused.
+pub fn ask(spot: Spot, ring: &[f32]) -> Position {
+    point_in_poly2d(spot.x, spot.y, ring).unwrap_or(Position::Outside)
 }
 
 // The doubled signed area, which is exact for small outlines.
-pub fn area(ring: &[f32]) -> f32 {
-    let n = ring.len();
-    if n < 2 {
+pub fn area(ring: &[[f32; 2]]) -> f32 {
+    let Some(last) = ring.last() else {
         return 0.0;
-    }
-    let mut x = ring[n - 2];
-    let mut y = ring[n - 1];
-    let mut sum = 0.0f32;
-    let mut i = 0;
-    while i < n - 1 {
-        let next_x = ring[i];
-        let next_y = ring[i + 1];
-        sum += x * next_y - y * next_x;
-        x = next_x;
-        y = next_y;
-        i += 2;
-    }
-    sum
-}
-
-// Copies corner `at` of a list of corner numbers to place k of a ring; nothing where there is no such corner.
-fn copy_corner(
-    coords: &[f32],
-    indices: &[u32],
-    at: usize,
-    ring: &mut [f32; MOST_COORDINATES],
-    k: usize,
-)
-    requires { k ≤ 511 }
-{
-    if indices.len() <= at {
-        return;
-    }
-    let i = wide(indices[at]);
-    if coords.len() / 2 <= i {
-        return;
-    }
-    ring[2 * k] = coords[2 * i];
-    ring[2 * k + 1] = coords[2 * i + 1];
-}
-
-// The coordinates of the ring of so many corners that begins at `at`.
-fn gather(
-    coords: &[f32],
-    indices: &[u32],
-    at: usize,
-    size: usize,
-    ring: &mut [f32; MOST_COORDINATES],
-)
-    requires { (at ≤ 1530) × (size ≤ 512) }
-{
-    for k in 0..size {
-        copy_corner(coords, indices, at + k, ring, k);
-    }
-}
-
-// With one ring more, of so many corners.
-fn plus(sum: Sum, ring: &[f32; MOST_COORDINATES], size: usize, x: f32, y: f32) -> Sum
-    requires { size ≤ 512 }
-{
-    let corners = front(ring, 2 * size);
-    let more = area(corners);
-    let one = if more < 0.0 { 1u32 } else { 0u32 };
-    let answer = ask(x, y, corners);
-    Sum {
-        odd: sum.odd != answer.inside,
-        border: sum.border || answer.border,
-        area: sum.area + more,
-        clockwise: std::num::wrapping_add_u32(sum.clockwise, one),
-    }
-}
-
-// The rings of a list together, at a spot.
-pub fn together(coords: &[f32], indices: &[u32], lengths: &[u32], x: f32, y: f32) -> Sum {
-    let mut ring = no_floats();
-    let mut sum = Sum {
-        odd: false,
-        border: false,
-        area: 0.0,
-        clockwise: 0,
     };
-    let mut at = 0;
-    for length in lengths {
-        let size = least(wide(*length), MOST_POINTS);
-        gather(coords, indices, at, size, &mut ring);
-        sum = plus(sum, &ring, size, x, y);
-        at = least(at + size, MOST_INDICES);
+    let mut before = *last;
+    let mut sum = 0.0f32;
+    for corner in ring {
+        sum += before[0] * corner[1] - before[1] * corner[0];
+        before = *corner;
     }
     sum
+}
+
+// The points of a list of corner numbers, as far as there are such corners.
+pub fn corners(coords: &[f32], indices: &[u32]) -> [[f32; 2]; MOST_INDICES] {
+    let (points, _) = coords.as_chunks::<2>();
+    let mut corners = [[0.0f32; 2]; MOST_INDICES];
+    for (corner, index) in corners.iter_mut().zip(indices) {
+        if let Some(point) = points.get(*index as usize) {
+            *corner = *point;
+        }
+    }
+    corners
+}
+
+// Rings that stand one behind the other, by their lengths.
+#[derive(Clone, Copy)]
+pub struct Rings<'a> {
+    pub corners: &'a [[f32; 2]],
+    pub lengths: &'a [u32],
+}
+
+impl<'a> Iterator for Rings<'a> {
+    type Item = &'a [[f32; 2]];
+
+    ghost remaining = { λ rings. at_most (length rings.lengths.now) };
+
+    fn next(&mut self) -> Option<&'a [[f32; 2]]> {
+        let (length, lengths) = self.lengths.split_first()?;
+        let size = self.corners.len().min(*length as usize);
+        let (ring, corners) = self.corners.split_at(size);
+        self.corners = corners;
+        self.lengths = lengths;
+        Some(ring)
+    }
+}
+
+impl Rings<'_> {
+    // The sum of the doubled areas.
+    pub fn area(self) -> f32 {
+        self.map(area).sum()
+    }
+
+    pub fn clockwise(self) -> usize {
+        self.filter(|ring| area(ring) < 0.0).count()
+    }
+
+    // Where a spot is by all rings together: on the border where it is on that of any, and inside where an odd number of them has it inside.
+    pub fn position(self, spot: Spot) -> Position {
+        let mut inside = false;
+        for ring in self {
+            match ask(spot, ring.as_flattened()) {
+                Position::Border => return Position::Border,
+                Position::Inside => inside = !inside,
+                Position::Outside => {}
+            }
+        }
+        if inside {
+            Position::Inside
+        } else {
+            Position::Outside
+        }
+    }
 }

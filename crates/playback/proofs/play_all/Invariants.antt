@@ -1,13 +1,7 @@
--- What is lent keeps its lengths.
-use Rattle.std.proofs.Common.{◌≡◌, ◌-◌, length}
-use Rattle.playback.specs.Lent.{Lent}
+-- As much is lent for what is carried.
+use Rattle.std.proofs.Common.{◌≡◌, suc, length}
+use Rattle.rules.specs.Text.{most_bytes}
 use Rattle.playback.proofs.play_all.Given as goal
 
-abbrev pub invariant-loop-reads : goal.invariant-loop-reads
-invariant-loop-reads g l = record {
-  read : length l.list ≡ length l.fn.list;
-  lent : Lent l.fn.carried l.fn.coords l.fn.out l.log l.carried l.coords l.out;
-}
-
-abbrev pub decreases-loop-reads : goal.decreases-loop-reads
-decreases-loop-reads g l = 18446744073709551615 - l.reads
+abbrev pub invariant-loop : goal.invariant-loop
+invariant-loop g l = length l.log.carried.bytes.now ≡ suc most_bytes

@@ -1,23 +1,25 @@
 -- `hull` meets its contract.
 use native.Mathlib.Omega.{arith}
-use mathlib.Core.Path.{sym}
+use mathlib.Core.Path.{refl, sym, ap, ◌∙◌}
 use lib.Seq.{length-take-le}
-use Rattle.hasplight.proofs.Lending.{words_kept, room_for, gives}
+use Rattle.entries.specs.declared.Answer.{Answer}
+use Rattle.hasplight.proofs.Lending.{room_for, gives}
 use Rattle.hasplight.proofs.Hulling.{hull_reports, hull_need}
 use Rattle.hasplight.proofs.hull.hull.Goals as goal
 
-pub slice_bounds-convex_hull2_idx-end : goal.slice_bounds-convex_hull2_idx-end
-slice_bounds-convex_hull2_idx-end c =
-    sym (length-take-le _ _ (omega (arith, c.least-room.ensures.value, c.least-room.ensures.upper_bound, c.zeros-out.ensures.result_len)))
+pub slice_bounds-out-end-2 : goal.slice_bounds-out-end-2
+slice_bounds-out-end-2 c =
+    (room_for (hull_reports _) (hull_need _ c.requires) c.args.indices.now _ _ _ c.least-room.ensures.value refl (ap (λ (a : Answer). a.number) c.from-a.ensures ∙ c.convex_hull2_idx.ensures.number) (ap (λ (a : Answer). a.count) c.from-a.ensures ∙ c.convex_hull2_idx.ensures.count) c.convex_hull2_idx.ensures.indices _ refl).0
 
-pub slice_bounds-write_words-end : goal.slice_bounds-write_words-end
-slice_bounds-write_words-end c =
-    words_kept (hull_reports _) (hull_need _ c.requires) c.args.indices.now _ _ _ c.least-room.ensures.value c.zeros-out.ensures.result_len c.convex_hull2_idx-a.ensures.number c.convex_hull2_idx-a.ensures.count c.convex_hull2_idx-a.ensures.indices
+pub slice_bounds-write-end : goal.slice_bounds-write-end
+slice_bounds-write-end c =
+    sym (length-take-le _ _ (room_for (hull_reports _) (hull_need _ c.requires) c.args.indices.now _ _ _ c.least-room.ensures.value refl (ap (λ (a : Answer). a.number) c.from-a.ensures ∙ c.convex_hull2_idx.ensures.number) (ap (λ (a : Answer). a.count) c.from-a.ensures ∙ c.convex_hull2_idx.ensures.count) c.convex_hull2_idx.ensures.indices _ refl).0)
 
-pub write_words-requires : goal.write_words-requires
-write_words-requires c =
-    room_for (hull_reports _) (hull_need _ c.requires) c.args.indices.now _ _ _ c.least-room.ensures.value c.zeros-out.ensures.result_len c.convex_hull2_idx-a.ensures.number c.convex_hull2_idx-a.ensures.count c.convex_hull2_idx-a.ensures.indices _ c.wide.ensures
+pub write-requires : goal.write-requires
+write-requires c =
+    let fits = room_for (hull_reports _) (hull_need _ c.requires) c.args.indices.now _ _ _ c.least-room.ensures.value refl (ap (λ (a : Answer). a.number) c.from-a.ensures ∙ c.convex_hull2_idx.ensures.number) (ap (λ (a : Answer). a.count) c.from-a.ensures ∙ c.convex_hull2_idx.ensures.count) c.convex_hull2_idx.ensures.indices _ refl in
+    omega (arith, fits.1, length-take-le _ _ fits.0)
 
 pub returns : goal.returns
 returns c =
-    gives (hull_reports _) (hull_need _ c.requires) c.args.indices.now _ _ _ c.least-room.ensures.value c.zeros-out.ensures.result_len c.convex_hull2_idx-a.ensures.number c.convex_hull2_idx-a.ensures.count c.convex_hull2_idx-a.ensures.indices _ c.wide.ensures c.write_words.ensures
+    gives (hull_reports _) (hull_need _ c.requires) c.args.indices.now _ _ _ c.least-room.ensures.value refl (ap (λ (a : Answer). a.number) c.from-a.ensures ∙ c.convex_hull2_idx.ensures.number) (ap (λ (a : Answer). a.count) c.from-a.ensures ∙ c.convex_hull2_idx.ensures.count) c.convex_hull2_idx.ensures.indices _ refl c.write.ensures
