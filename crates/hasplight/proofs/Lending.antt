@@ -42,13 +42,16 @@ module _ {number count : List ℕ → ℕ} {indices : List ℕ → List ℕ} {si
       go (no d) = let d' : number out' ≢ 0 = λ z. d (q ∙ z) in (e.refused out d ∙ sym (e.refused out' d'), none out d ∙ sym (none out' d'))
 
   -- it is lent the first `room` of the words, of as many bytes
-  module _ (few : need ≤ most_indices) (bytes words : List ℕ) {room : ℕ} (a : Answer) (after : List ℕ) (r : room ≡ least_of (length bytes / 4)) (w : length words ≡ most_indices)
-      (n : a.number ≡ number (take room words)) (c : a.count ≡ count (take room words)) (i : after ≡ indices (take room words)) where
+  module _ (few : need ≤ most_indices) (bytes words : List ℕ) {room : ℕ} (a : Answer) {told : Answer} (after : List ℕ) (r : room ≡ least_of (length bytes / 4)) (w : length words ≡ most_indices)
+      (t : a ≡ told) (n : told.number ≡ number (take room words)) (c : told.count ≡ count (take room words)) (i : after ≡ indices (take room words)) where
     abbrev lent : List ℕ
     lent = take room words
 
     lent_length : length lent ≡ room
     lent_length = length-take-le room words (omega (arith, least_below (length bytes / 4)))
+
+    count_is : a.count ≡ count lent
+    count_is = ap (λ (x : Answer). x.count) t ∙ c
 
     after-length : length after ≡ room
     after-length = ap length i ∙ e.kept lent ∙ lent_length
@@ -57,7 +60,7 @@ module _ {number count : List ℕ → ℕ} {indices : List ℕ → List ℕ} {si
     words_kept = sym (length-append after (drop room words) ∙ omega (arith, after-length, length-drop room words, least_below (length bytes / 4)))
 
     written_fits : size a.count ≤ room
-    written_fits = omega (arith, e.fits lent, ap size c, lent_length)
+    written_fits = omega (arith, e.fits lent, ap size count_is, lent_length)
 
     pub room_for : (k : ℕ) → k ≡ size a.count → (k ≤ length (after ++ drop room words)) × (k * 4 ≤ length bytes)
     room_for k q = (omega (arith, words_kept, written_fits, least_below (length bytes / 4)), omega (arith, written_fits, least-within (length bytes / 4)))
@@ -66,18 +69,18 @@ module _ {number count : List ℕ → ℕ} {indices : List ℕ → List ℕ} {si
     number_same = e.by_room lent (words_of bytes) (rw (lent_length, r, words_length bytes) (least-room (length bytes / 4) need few))
 
     count_same : a.count ≡ count (words_of bytes)
-    count_same = c ∙ (same lent (words_of bytes) number_same).0
+    count_same = count_is ∙ (same lent (words_of bytes) number_same).0
 
     written : (k : ℕ) → k ≡ size a.count → take k (after ++ drop room words) ≡ take (size (count (words_of bytes))) (indices (words_of bytes))
     written k q =
         take-append-le k after (drop room words) (omega (arith, after-length, written_fits, q))
-        ∙ ap (λ (m : ℕ). take m after) (q ∙ ap size c) ∙ ap (take (size (count lent))) i ∙ (same lent (words_of bytes) number_same).1
+        ∙ ap (λ (m : ℕ). take m after) (q ∙ ap size count_is) ∙ ap (take (size (count lent))) i ∙ (same lent (words_of bytes) number_same).1
 
     -- and what is written as bytes is the report
     pub gives :
         (k : ℕ) {bytes' : List ℕ} → k ≡ size a.count → bytes' ≡ over (bytes_of (take k (after ++ drop room words))) bytes
         → Reported (number (words_of bytes)) (count (words_of bytes)) (take (size (count (words_of bytes))) (indices (words_of bytes))) bytes a bytes'
-    gives k q b = record { number_is = n ∙ number_same; count_is = count_same; bytes = b ∙ ap (λ (ws : List ℕ). over (bytes_of ws) bytes) (written k q) }
+    gives k q b = record { number_is = ap (λ (x : Answer). x.number) t ∙ n ∙ number_same; count_is = count_same; bytes = b ∙ ap (λ (ws : List ℕ). over (bytes_of ws) bytes) (written k q) }
 
   -- what is refused before anything is lent
   pub gives_none :
