@@ -21,11 +21,11 @@ use outline::check_count;
 use point::Point;
 use points::Points;
 
-// Whether x is a whole number from -1024 to 1024. Adding and taking away 1.5 * 2^23 rounds x to a whole number. No test waits for another.
+// Whether x is a whole number from -1024 to 1024. Adding and taking away 1.5 * 2^23 rounds x to a whole number.
 pub fn on_grid(x: f32) -> bool
     ensures { result ≡ on_grid x }
 {
-    (x > -1025.0) & (x < 1025.0) & (x + 12582912.0 - 12582912.0 == x)
+    x > -1025.0 && (x < 1025.0 && x + 12582912.0 - 12582912.0 == x)
 }
 
 // Whether a coordinate is off the grid. All are looked at, with no early end, so that several can be looked at at once.

@@ -5,7 +5,8 @@ ghost use Rattle.hasplight.specs.Promise.{HullGives, HullPromise};
 
 use crate::read;
 use crate::room::least;
-use entries::{Answer, MOST_COORDINATES, MOST_INDICES};
+use entries::{Answer, MOST_COORDINATES, MOST_INDICES, MOST_POINTS};
+use grid::outline::check_count;
 
 // Finds the hull, and writes what is reported as bytes.
 fn hull(floats: &[f32], indices: &mut [u8]) -> Answer
@@ -22,9 +23,9 @@ fn hull(floats: &[f32], indices: &mut [u8]) -> Answer
 pub fn hasplight_convex_hull2_idx(coords: &[u8], indices: &mut [u8]) -> Answer
     ensures { HullPromise coords.now indices.old result indices.new }
 {
-    let mut room = [0.0f32; MOST_COORDINATES];
-    match read(2, coords, &mut room) {
-        Ok(floats) => hull(floats, indices),
-        Err(refusal) => Answer::from(Err(refusal)),
+    if let Err(refusal) = check_count(2, MOST_POINTS, coords.len() / 4) {
+        return Answer::from(Err(refusal));
     }
+    let mut room = [0.0f32; MOST_COORDINATES];
+    hull(read(coords, &mut room), indices)
 }

@@ -28,17 +28,14 @@ pub struct Verdict {
     pub answer: u32,
 }
 
-// Reads the coordinates of at least so many points, if their number is not refused.
-fn read<'a>(least: usize, coords: &[u8], room: &'a mut [f32]) -> Result<&'a [f32], Refusal>
-    requires { length room.old ≡ most_coordinates }
-    ensures number { refused result ≡ first_refusal (count_checks least most_points (length (floats_of coords.now))) }
-    ensures floats { IfOk result (λ floats. floats.now ≡ floats_of coords.now) }
-    ensures few { IfOk result (λ floats. length floats.now ≤ most_coordinates) }
+// Reads the coordinates, where they are not too many.
+fn read<'a>(coords: &[u8], room: &'a mut [f32]) -> &'a [f32]
+    requires few { length (floats_of coords.now) ≤ most_coordinates }
+    requires room { length room.old ≡ most_coordinates }
+    ensures { result.now ≡ floats_of coords.now }
 {
-    let n = coords.len() / 4;
-    check_count(least, MOST_POINTS, n)?;
     words::read(coords, room);
-    Ok(&room[..n])
+    &room[..coords.len() / 4]
 }
 
 // Cuts, and writes what is reported as bytes.
@@ -56,11 +53,11 @@ fn cut(floats: &[f32], indices: &mut [u8]) -> Answer
 pub fn hasplight_triangulate_ear_clipping(coords: &[u8], indices: &mut [u8]) -> Answer
     ensures { CutterPromise coords.now indices.old result indices.new }
 {
-    let mut room = [0.0f32; MOST_COORDINATES];
-    match read(3, coords, &mut room) {
-        Ok(floats) => cut(floats, indices),
-        Err(refusal) => Answer::from(Err(refusal)),
+    if let Err(refusal) = check_count(3, MOST_POINTS, coords.len() / 4) {
+        return Answer::from(Err(refusal));
     }
+    let mut room = [0.0f32; MOST_COORDINATES];
+    cut(read(coords, &mut room), indices)
 }
 
 // Merges, and writes what is reported as bytes.
@@ -112,11 +109,11 @@ pub fn hasplight_hertel_mehlhorn_idx(
 ) -> Answer
     ensures { MergerPromise coords.now triangles.now indices.old lengths.old result indices.new lengths.new }
 {
-    let mut room = [0.0f32; MOST_COORDINATES];
-    match read(0, coords, &mut room) {
-        Ok(floats) => merge_triangles(floats, triangles, indices, lengths),
-        Err(refusal) => Answer::from(Err(refusal)),
+    if let Err(refusal) = check_count(0, MOST_POINTS, coords.len() / 4) {
+        return Answer::from(Err(refusal));
     }
+    let mut room = [0.0f32; MOST_COORDINATES];
+    merge_triangles(read(coords, &mut room), triangles, indices, lengths)
 }
 
 // What a point test answers.

@@ -109,9 +109,11 @@ impl Store {
         if !self.may_hold(g, want) {
             return None;
         }
-        for at in 3 * from.max(8 * g)..3 * count.min(8 * g + 8) {
-            if self.edges[at] == want {
-                return Some(at);
+        for k in from.max(8 * g)..count.min(8 * g + 8) {
+            for side in 0..3 {
+                if self.edges[3 * k + side] == want {
+                    return Some(3 * k + side);
+                }
             }
         }
         None

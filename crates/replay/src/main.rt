@@ -3,7 +3,7 @@
 
 mod record;
 
-ghost use Rattle.std.specs.Prelude.{◌≡◌, ◌+◌, ◌*◌, ◌^◌, ◌<◌, ◌≤◌, length, IfOk};
+ghost use Rattle.std.specs.Prelude.{◌≡◌, ◌+◌, ◌*◌, ◌^◌, ◌<◌, ◌≤◌, length, IfOk, IfSome};
 
 use input::more;
 use record::{NoRecord, Record};
@@ -37,6 +37,7 @@ struct Tally {
     different: usize,
     // the number of the first record with a difference, counted from 1
     first: Option<usize>,
+    ghost known_first: { IfSome first (λ record. record ≤ records) },
     ghost few_inputs: { inputs ≤ 2048 * records },
     ghost few_different: { different ≤ 2048 * records },
 }
