@@ -6,6 +6,7 @@ use Rattle.algebra.specs.Bits.{Has}
 use Rattle.algebra.specs.Lists.{Each}
 use Rattle.rules.specs.Merge.{mate}
 use Rattle.pieces.specs.declared.Mate.{Mate}
+use Rattle.pieces.specs.declared.store.Found.{Found}
 
 -- ---- an edge as one number: points are below 512
 
@@ -78,6 +79,11 @@ pub record Lie (edges eights : List ℕ) (from count : ℕ) : Type 0 where
   pub eights_size : length eights ≡ 512
   pub few : count ≤ 510
   pub each : (k : ℕ) → from ≤ k → k < count → Piece edges eights k
+
+-- at which place of the store an edge that was found stands
+abbrev pub place_of : Option Found → Option ℕ
+place_of None = None
+place_of (Some found) = Some (3 * found.piece + found.side)
 
 -- where the edge that is looked for first stands among the 24 edges of eight g, of the pieces from number `from` on, where there are `count`
 abbrev pub Within : List ℕ → ℕ → ℕ → ℕ → ℕ → Option ℕ → Type 0

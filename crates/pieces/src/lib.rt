@@ -102,10 +102,10 @@ impl Pieces {
             let skip = word.trailing_zeros() as usize;
             g += skip;
             word >>= skip;
-            if let Some(at) = self.store.find(want, g, self.from, self.count) {
+            if let Some(found) = self.store.find(want, g, self.from, self.count) {
                 return Some(Mate {
-                    place: at / 3 - self.from,
-                    third: self.store.third_corner(at),
+                    place: found.piece - self.from,
+                    third: self.store.third_corner(found),
                 });
             }
             word /= 2;

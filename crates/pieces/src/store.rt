@@ -1,6 +1,6 @@
 // Pieces as three edges each; and for each point a word that shows in which eights of pieces it stands.
-ghost use Rattle.std.specs.Prelude.{◌≡◌, false, ℕ, ◌+◌, ◌*◌, ◌/◌, ◌%◌, ◌≤◌, ◌<◌, get_or};
-ghost use Rattle.pieces.specs.Pieces.{start_of, edge_of, piece_at, put_piece, moved, show, shows, moved_shows, Low, Within};
+ghost use Rattle.std.specs.Prelude.{◌≡◌, false, ℕ, ◌+◌, ◌*◌, ◌/◌, ◌%◌, ◌≤◌, ◌<◌, get_or, IfSome};
+ghost use Rattle.pieces.specs.Pieces.{start_of, edge_of, piece_at, put_piece, moved, show, shows, moved_shows, Low, place_of, Within};
 
 // The edge from point s to point e.
 pub fn edge(s: usize, e: usize) -> u32
@@ -15,6 +15,13 @@ pub fn start(edge: u32) -> usize
     ensures { result ≡ start_of edge }
 {
     (edge / 512) as usize
+}
+
+// An edge that was looked for: which piece has it, and which of the piece's three it is.
+#[derive(Clone, Copy, Debug, PartialEq, Eq)]
+pub struct Found {
+    pub piece: usize,
+    pub side: usize,
 }
 
 // Room for the edges of the most pieces, in whole eights.
@@ -81,12 +88,12 @@ impl Store {
         [x, y, z]
     }
 
-    // The corner of a piece that is on neither end of its edge at place `at`.
-    pub fn third_corner(&self, at: usize) -> usize
-        requires { at < 1536 }
-        ensures { result ≡ start_of (get_or self.now.edges (3 * (at / 3) + (at % 3 + 2) % 3) 0) }
+    // The corner of a piece that is on neither end of an edge of it.
+    pub fn third_corner(&self, found: Found) -> usize
+        requires { (found.piece < 512) × (found.side < 3) }
+        ensures { result ≡ start_of (get_or self.now.edges (3 * found.piece + (found.side + 2) % 3) 0) }
     {
-        start(self.edges[3 * (at / 3) + (at % 3 + 2) % 3])
+        start(self.edges[3 * found.piece + (found.side + 2) % 3])
     }
 
     // Whether an edge may be one of the 24 of eight g. There is no early end, so that all are looked at at once.
@@ -102,17 +109,18 @@ impl Store {
     }
 
     // Where an edge first stands in eight g, of the pieces from number `from` on, where there are `count`.
-    pub fn find(&self, want: u32, g: usize, from: usize, count: usize) -> Option<usize>
+    pub fn find(&self, want: u32, g: usize, from: usize, count: usize) -> Option<Found>
         requires { (g < 64) × (from ≤ 512) × (count ≤ 512) }
-        ensures { Within self.now.edges want g from count result }
+        ensures first { Within self.now.edges want g from count (place_of result) }
+        ensures side { IfSome result (λ found. (found.piece < count) × (found.side < 3)) }
     {
         if !self.may_hold(g, want) {
             return None;
         }
-        for k in from.max(8 * g)..count.min(8 * g + 8) {
+        for piece in from.max(8 * g)..count.min(8 * g + 8) {
             for side in 0..3 {
-                if self.edges[3 * k + side] == want {
-                    return Some(3 * k + side);
+                if self.edges[3 * piece + side] == want {
+                    return Some(Found { piece, side });
                 }
             }
         }

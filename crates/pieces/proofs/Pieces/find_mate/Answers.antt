@@ -20,7 +20,7 @@ find-requires c =
 pub loop-word-preserved : goal.loop-word-preserved
 loop-word-preserved c =
     let low = skip_low c.self.invariant c.requires c.loop-word.invariant c.loop-word-test.true _ refl in
-    seek_next c.self.invariant c.requires (seek_skip c.self.invariant c.requires c.loop-word.invariant _ refl low) c.in_default.ensures low
+    seek_next c.self.invariant c.requires (seek_skip c.self.invariant c.requires c.loop-word.invariant _ refl low) c.in_default.ensures.first low
 
 pub returns : goal.returns
 returns c = rw (← c.self.view_is) (seek_none c.self.invariant c.requires c.loop-word.invariant c.loop-word-test.false)
@@ -28,4 +28,4 @@ returns c = rw (← c.self.view_is) (seek_none c.self.invariant c.requires c.loo
 pub returns-in-Some : goal.returns-in-Some
 returns-in-Some c =
     let low = skip_low c.self.invariant c.requires c.loop-word.invariant c.loop-word-test.true _ refl in
-    rw (← c.self.view_is) (seek_found c.self.invariant c.requires (seek_skip c.self.invariant c.requires c.loop-word.invariant _ refl low) _ c.in-Some.ensures _ c.third_corner.ensures)
+    rw (← c.self.view_is) (seek_found c.self.invariant c.requires (seek_skip c.self.invariant c.requires c.loop-word.invariant _ refl low) _ _ c.in-Some.ensures.side.1 c.in-Some.ensures.first _ c.third_corner.ensures)
