@@ -83,7 +83,7 @@ pub strip_is :
 strip_is v on = let w = on-within v on in ((edge_is w).0, rw (edge_is w).1, strip_low (whole_of v) w.small)
 
 -- a negated coordinate
-neg_on : (v : Float) → on_grid v ≡ true → on_grid (neg v) ≡ true
+pub neg_on : (v : Float) → on_grid v ≡ true → on_grid (neg v) ≡ true
 unfolding neg
 neg_on nan h = h
 neg_on (inf s) h = h
@@ -95,7 +95,7 @@ neg_whole nan = refl
 neg_whole (inf s) = refl
 neg_whole (fin s m e) = signed-not s (m * up e / down e) ∙ sym (+ℤ_idl (neg_ℤ (signed s (m * up e / down e))))
 
-neg_edge : (v : Float) → from_edge (whole_of (neg v)) ≡ from_edge (pos 0 -ℤ whole_of v)
+pub neg_edge : (v : Float) → from_edge (whole_of (neg v)) ≡ from_edge (pos 0 -ℤ whole_of v)
 neg_edge v = ap from_edge (neg_whole v)
 
 pub strip_back :

@@ -17,7 +17,7 @@ use Rattle.rules.specs.Ear as rules
 use Rattle.rules.specs.Cut.{Choice, nothing, better}
 use Rattle.rules.proofs.FloatOrder.{le_total}
 use Rattle.winners.specs.Winners.{later}
-use Rattle.winners.specs.Keys.{to_ear, from_ear, lowest, key_of, ear_in, Proper, no, pointed, Fair, none, some, ear_entry, decode, node, with_node, winner_in, BetterOf, Nobody, Numbers, Leaves, Tree, LeafSame, LeafSet, corner_if, root_of}
+use Rattle.winners.specs.Keys.{to_ear, from_ear, lowest, key_of, ear_in, Proper, no, pointed, Fair, none, some, ear_entry, decode, node, with_node, winner_in, BetterOf, Nobody, Numbers, Leaves, Tree, LeafSame, LeafSet, root_of}
 use Rattle.winners.specs.declared.Entry.{Entry}
 use Rattle.winners.specs.declared.Winners.{Winners}
 use Rattle.winners.proofs.Repairs.{eqb_apart, unchanged, set-right, leaf-set, parent_set, parent_same, root-set}
