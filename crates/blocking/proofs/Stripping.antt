@@ -98,6 +98,12 @@ neg_whole (fin s m e) = signed-not s (m * up e / down e) ∙ sym (+ℤ_idl (neg_
 pub neg_edge : (v : Float) → from_edge (whole_of (neg v)) ≡ from_edge (pos 0 -ℤ whole_of v)
 neg_edge v = ap from_edge (neg_whole v)
 
+pub strip_back :
+    (v : Float) → on_grid v ≡ true
+    → T (in_unsigned binary32 32 (sub binary32 (fin false 1 (pos 10)) (neg v))) × (to_unsigned 32 (sub binary32 (fin false 1 (pos 10)) (neg v)) / 32 ≡ from_edge (pos 0 -ℤ whole_of v))
+    × (from_edge (pos 0 -ℤ whole_of v) < 65)
+strip_back v on = rw (← neg_edge v) (strip_is (neg v) (neg_on v on))
+
 -- ---- the masks as they are filled
 
 abbrev pub plus : Side → Masks → ℕ → Masks

@@ -1,5 +1,5 @@
 // The grid in 65 strips each way, of 32 whole numbers each, counted from an edge.
-ghost use Rattle.std.specs.Prelude.{◌≡◌, true, ℕ, ◌+◌, ◌<◌, ◌≤◌, length};
+ghost use Rattle.std.specs.Prelude.{◌≡◌, true, ℕ, ◌+◌, ◌<◌, ◌≤◌, pos, ◌-ℤ◌, length};
 ghost use Rattle.algebra.specs.Bits.{Has};
 ghost use Rattle.rules.specs.Limits.{most_points};
 ghost use Rattle.rules.specs.Grid.{on_grid, whole_of};
@@ -38,13 +38,22 @@ pub struct Strips {
     pub masks: [Masks; 65],
 }
 
-// The strip of a coordinate from the right or upper edge of the grid; of a negated one, from the left or lower edge.
-fn from_edge(v: f32) -> usize
+// The strip of a coordinate from the right or upper edge of the grid.
+fn from_upper(v: f32) -> usize
     requires { on_grid v ≡ true }
     ensures strip { result ≡ from_edge (whole_of v) }
     ensures bound { result < 65 }
 {
     ((1024.0 - v) as u32 / 32) as usize
+}
+
+// And from the left or lower edge.
+fn from_lower(v: f32) -> usize
+    requires { on_grid v ≡ true }
+    ensures strip { result ≡ from_edge (pos 0 -ℤ whole_of v) }
+    ensures bound { result < 65 }
+{
+    ((1024.0 - -v) as u32 / 32) as usize
 }
 
 impl Strips {
@@ -75,17 +84,16 @@ impl Strips {
     }
 
     // Puts a point of eight number g to the masks of its own four strips.
-    #[tactic(auto, using(crate::proofs::Stripping::neg_on))]
     fn mark(&mut self, p: Point, g: u64)
         requires eight { g < 64 }
         requires long { length self.old.masks ≡ 65 }
         ensures { Marked self.old.masks (pt_of p) g self.new.masks }
     {
         let eight = 1u64 << g;
-        self.masks[from_edge(p.x)].right |= eight;
-        self.masks[from_edge(-p.x)].left |= eight;
-        self.masks[from_edge(p.y)].upper |= eight;
-        self.masks[from_edge(-p.y)].lower |= eight;
+        self.masks[from_upper(p.x)].right |= eight;
+        self.masks[from_lower(p.x)].left |= eight;
+        self.masks[from_upper(p.y)].upper |= eight;
+        self.masks[from_lower(p.y)].lower |= eight;
     }
 
     // Puts each mask to those of the strips behind its own.
@@ -99,23 +107,22 @@ impl Strips {
     }
 
     // The eights that may have a point in the box of an ear's three corners: each point of another eight is beyond one edge of that box.
-    #[tactic(auto, using(crate::proofs::Stripping::neg_on))]
     pub fn candidates(&self, a: Point, b: Point, c: Point) -> u64
         ensures { result ≡ candidates_of self.now.masks (pt_of a) (pt_of b) (pt_of c) }
     {
         let masks = &self.masks;
-        let right = masks[from_edge(a.x)].right
-            | masks[from_edge(b.x)].right
-            | masks[from_edge(c.x)].right;
-        let left = masks[from_edge(-a.x)].left
-            | masks[from_edge(-b.x)].left
-            | masks[from_edge(-c.x)].left;
-        let upper = masks[from_edge(a.y)].upper
-            | masks[from_edge(b.y)].upper
-            | masks[from_edge(c.y)].upper;
-        let lower = masks[from_edge(-a.y)].lower
-            | masks[from_edge(-b.y)].lower
-            | masks[from_edge(-c.y)].lower;
+        let right = masks[from_upper(a.x)].right
+            | masks[from_upper(b.x)].right
+            | masks[from_upper(c.x)].right;
+        let left = masks[from_lower(a.x)].left
+            | masks[from_lower(b.x)].left
+            | masks[from_lower(c.x)].left;
+        let upper = masks[from_upper(a.y)].upper
+            | masks[from_upper(b.y)].upper
+            | masks[from_upper(c.y)].upper;
+        let lower = masks[from_lower(a.y)].lower
+            | masks[from_lower(b.y)].lower
+            | masks[from_lower(c.y)].lower;
         right & left & upper & lower
     }
 }

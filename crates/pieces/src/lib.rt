@@ -1,7 +1,7 @@
 // The later pieces of a merge. Each still is a given triangle; and the search for the one that holds an edge.
 #![tactic(auto)]
 
-mod store;
+pub mod store;
 
 ghost use Rattle.std.specs.Prelude.{◌≡◌, ℕ, ◌*◌, ◌/◌, ◌%◌, ◌≤◌, ◌<◌, List, [], length};
 ghost use Rattle.algebra.specs.Lists.{Each};

@@ -1,5 +1,5 @@
 // Pieces as three edges each; and for each point a word that shows in which eights of pieces it stands.
-ghost use Rattle.std.specs.Prelude.{◌≡◌, false, ℕ, ◌+◌, ◌*◌, ◌/◌, ◌%◌, ◌≤◌, ◌<◌, get_or, IfSome};
+ghost use Rattle.std.specs.Prelude.{◌≡◌, false, ℕ, ◌+◌, ◌*◌, ◌/◌, ◌%◌, ◌≤◌, ◌<◌, length, get_or, IfSome};
 ghost use Rattle.pieces.specs.Pieces.{start_of, edge_of, piece_at, put_piece, moved, show, shows, moved_shows, Low, place_of, Within};
 
 // The edge from point s to point e.
@@ -32,7 +32,10 @@ pub struct Store {
 }
 
 impl Store {
-    pub fn new() -> Store {
+    pub fn new() -> Store
+        ensures edges { length result.edges ≡ 1536 }
+        ensures eights { length result.eights ≡ 512 }
+    {
         Store {
             edges: [0; 1536],
             eights: [0; 512],

@@ -307,4 +307,4 @@ module _
       let c = clipped (points_in s) (count_in s) s.ring h.ringed small i low oi m.ring cut_here s.winners h.eared w₁ w₂ w₃ tree (rw (winners_are, ee, points_are, eb) at l₁) (rw (eg, points_are, ef) at l₂) l₃ in
       let ringed : Ringed (points_in m) (count_in m) m.ring = rw points_are c.0.0 in
       let eared : Eared (points_in m) (count_in m) m.ring w₃ = rw points_are c.0.1 in
-      record { stands = record { ringed = ringed; eared = eared }; outline = outline_is; ring = c.1 }
+      record { stands = record { ringed = ringed; eared = eared }; outline = outline_is; leaves = l₃.leaves ∙ l₂.leaves ∙ l₁.leaves ∙ ap (λ (x : Winners). x.leaves) winners_are; ring = c.1 }

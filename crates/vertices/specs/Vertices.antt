@@ -113,6 +113,7 @@ with_reciprocal r i x = set r i (record { prev = prev_of r i; next = next_of r i
 pub record Clipped (s : Vertices) (i : ℕ) (s' : Vertices) : Type 0 where
   pub stands : Stands s'
   pub outline : s'.outline.now ≡ s.outline.now
+  pub leaves : s'.winners.leaves ≡ s.winners.leaves
   pub ring : ring_in (count_in s) s'.ring ≡ without i (ring_in (count_in s) s.ring)
 
 unfoldable pub lowest_from : (ℕ → Bool) → ℕ → ℕ → ℕ

@@ -6,7 +6,7 @@ ghost use Rattle.std.specs.Prelude.{◌≡◌, true, ◌+◌, ◌<◌, ◌≤◌
 ghost use Rattle.algebra.specs.Lists.{count_from};
 ghost use Rattle.rules.specs.Limits.{most_points};
 ghost use Rattle.grid.specs.Listed.{listed};
-ghost use Rattle.winners.specs.Keys.{root_of};
+ghost use Rattle.winners.specs.Keys.{Nobody, root_of};
 ghost use Rattle.vertices.specs.Ears.{ear_of};
 ghost use Rattle.vertices.specs.Vertices.{points_in, count_in, Room, prev_of, next_of, active_of, corner_at, edge_of, first_vertex, before_first, after_first, Begun, AtCorner, TakenOut, with_reciprocal, Clipped, Stands, lowest_from, ring_in};
 
@@ -101,11 +101,25 @@ pub fn update_vertex(
     Some(root::pointiness(p1, p, p3, before, after))
 }
 
+// The lowest active number among the first n, or n.
+pub fn lowest(ring: &[Vertex; 512], n: usize) -> usize
+    requires { n ≤ 512 }
+    ensures { result ≡ lowest_from (active_of ring.now) 0 n }
+{
+    for i in 0..n {
+        if ring[i].active {
+            return i;
+        }
+    }
+    n
+}
+
 impl<'a> Vertices<'a> {
-    // Room for the vertices of an outline.
+    // Room for the vertices of an outline, with nobody's ear anywhere.
     pub fn new(outline: &'a Outline<'a>) -> Vertices<'a>
         ensures outline { result.outline.now ≡ outline.now }
         ensures room { Room result }
+        ensures nobody { Nobody result.winners }
     {
         Vertices {
             outline,
@@ -137,6 +151,7 @@ impl<'a> Vertices<'a> {
         requires room { Room self.old }
         ensures stands { Stands self.new }
         ensures outline { self.new.outline.now ≡ self.old.outline.now }
+        ensures leaves { self.new.winners.leaves ≡ self.old.winners.leaves }
         ensures ring { ring_in (count_in self.old) self.new.ring ≡ count_from 0 (count_in self.old) }
     {
         link(self.outline.points, &mut self.ring);
@@ -218,12 +233,6 @@ impl<'a> Vertices<'a> {
     pub fn lowest(&self) -> usize
         ensures { result ≡ lowest_from (active_of self.now.ring) 0 (count_in self.now) }
     {
-        let n = self.outline.points.count();
-        for i in 0..n {
-            if self.ring[i].active {
-                return i;
-            }
-        }
-        n
+        lowest(&self.ring, self.outline.points.count())
     }
 }

@@ -5,18 +5,19 @@ use mathlib.Core.Path.{◌≡◌, refl, sym, ap, ◌∙◌, subst}
 use mathlib.Core.Logic.{◌≢◌, ◌⊎◌, inl, inr}
 use mathlib.Core.Bool.{Bool, true, false, cond}
 use lib.Dec.{T, eqb}
-use lib.ListN.{length, length-set}
+use lib.ListN.{length, length-set, get_or, replicate, length-replicate, get_or-replicate}
 use lib.Seq.{get_or-set_same, get_or-set_other}
-use lib.Ieee.{Float, binary32, lt, eq, le, is_nan, fits, of_bits, to_bits}
+use mathlib.Core.List.{List}
+use lib.Ieee.{Float, nan, binary32, lt, eq, le, is_nan, fits, of_bits, to_bits}
 use lib.Ieee.Bits.{of_bits-to_bits}
-use Rattle.std.specs.Prelude.{Option}
+use Rattle.std.specs.Prelude.{Option, None}
 use Rattle.algebra.proofs.Equal.{eqb-true, or-false}
 use Rattle.winners.specs.Tree.{Right, StandsBut, Differs}
 use Rattle.rules.specs.Ear as rules
 use Rattle.rules.specs.Cut.{Choice, nothing, better}
 use Rattle.rules.proofs.FloatOrder.{le_total}
 use Rattle.winners.specs.Winners.{later}
-use Rattle.winners.specs.Keys.{lowest, key_of, ear_in, Proper, no, pointed, Fair, none, some, ear_entry, decode, node, with_node, winner_in, BetterOf, Numbers, Leaves, Tree, LeafSame, LeafSet}
+use Rattle.winners.specs.Keys.{to_ear, from_ear, lowest, key_of, ear_in, Proper, no, pointed, Fair, none, some, ear_entry, decode, node, with_node, winner_in, BetterOf, Nobody, Numbers, Leaves, Tree, LeafSame, LeafSet, root_of}
 use Rattle.winners.specs.declared.Entry.{Entry}
 use Rattle.winners.specs.declared.Winners.{Winners}
 use Rattle.winners.proofs.Repairs.{eqb_apart, unchanged, set-right, leaf-set, parent_set, parent_same, root-set}
@@ -26,6 +27,10 @@ use Rattle.winners.proofs.Repairs.{eqb_apart, unchanged, set-right, leaf-set, pa
 pub lowest-number : is_nan lowest ≡ false
 unfolding is_nan
 lowest-number = refl
+
+pub to-from : (e : rules.Ear) → to_ear (from_ear e) ≡ e
+to-from rules.none = refl
+to-from (rules.pointed v) = refl
 
 -- what a part and one more corner give together
 later_one : (b : Choice ℕ) (i : ℕ) (e : rules.Ear) → later b (better nothing i e) ≡ better b i e
@@ -44,6 +49,23 @@ ear_none = refl
 pub ear_some : (v : Float) → le v lowest ≡ false → ear_in v ≡ rules.pointed v
 unfolding ear_in
 ear_some v h = rw (not-lowest v h)
+
+-- what stands for an ear is its key
+pub fair_ear : {key : Float} → Fair key → Proper (from_ear (ear_in key))
+fair_ear none = rw ear_none no
+fair_ear (some {v = v} n h) = rw (ear_some v h) (pointed n h)
+
+-- a tree in which each node holds the same key, that of no ear, holds nobody's
+pub nobody : (e : Entry) (w : Winners) → e.key ≡ lowest → w.nodes ≡ replicate 1024 e → Nobody w
+nobody e w h is = record {
+  long = ap length is ∙ length-replicate 1024 e;
+  each = λ k l. ap (λ (x : List Entry). (get_or x k (record { key = nan; corner = 0 })).key) is ∙ ap (λ (x : Entry). x.key) (get_or-replicate 1024 k e _ l) ∙ h;
+}
+
+-- and has no ear to be cut
+pub nobody_chosen : (w : Winners) → Nobody w → root_of w ≡ None
+unfolding root_of ear_in eq
+nobody_chosen w h = rw (h.each 1 (omega arith)) refl
 
 neither : (t : Bool) → ◌≡◌ {A = Choice ℕ} nothing (cond t nothing nothing)
 neither true = refl

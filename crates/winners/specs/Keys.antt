@@ -65,6 +65,11 @@ pub record BetterOf (a b r : Entry) : Type 0 where
 pub record WithSibling (w : Winners) (k : ℕ) (own r : Entry) : Type 0 where
   pub children : own ≡ node w k → BetterOf (node w (k / 2 * 2)) (node w (k / 2 * 2 + 1)) r
 
+-- each key is that of a corner that is no ear
+pub record Nobody (w : Winners) : Type 0 where
+  pub long : length w.nodes ≡ 1024
+  pub each : (k : ℕ) → k < 1024 → (node w k).key ≡ lowest
+
 -- the array has room, and each key from node `from` on stands for an ear
 pub record Numbers (w : Winners) (from : ℕ) : Type 0 where
   pub long : length w.nodes ≡ 1024

@@ -4,7 +4,7 @@
 ghost use Rattle.std.specs.Prelude.{◌≡◌, true, false, ◌+◌, ◌<◌, ◌≤◌, length};
 ghost use Rattle.std.specs.Int.Bits.{bit_xor};
 ghost use Rattle.std.specs.Float.Ieee.{is_nan};
-ghost use Rattle.winners.specs.Keys.{Proper, Fair, ear_entry, node, with_node, BetterOf, WithSibling, Leaves, Tree, LeafSame, LeafSet, Power, root_of};
+ghost use Rattle.winners.specs.Keys.{Proper, Fair, ear_entry, node, with_node, BetterOf, WithSibling, Nobody, Leaves, Tree, LeafSame, LeafSet, Power, root_of};
 
 // The key of a corner that is no ear: below the pointiness of any.
 const NO_EAR: f32 = -16777216.0;
@@ -53,15 +53,16 @@ pub struct Winners {
 }
 
 impl Winners {
-    // Room for n corners.
+    // Room for n corners, with nobody anywhere.
     pub fn new(n: usize) -> Winners
         requires { n ≤ 512 }
+        ensures nobody { Nobody result }
         ensures long { length result.nodes ≡ 1024 }
         ensures enough { Power result.leaves × (n ≤ result.leaves) }
     {
         Winners {
             nodes: [Entry {
-                key: 0.0,
+                key: NO_EAR,
                 corner: 0,
             }; 1024],
             leaves: n.next_power_of_two(),

@@ -1,5 +1,5 @@
 use native.Mathlib.Omega.{arith}
-use mathlib.Core.Path.{refl}
+use mathlib.Core.Path.{refl, ◌∙◌}
 use Rattle.vertices.proofs.Starts.{none_updated, starting_corner, leaf_there, starting_more, starting_leaves, started}
 use Rattle.vertices.proofs.Vertices.start.Goals as goal
 
@@ -28,4 +28,4 @@ build-requires c = starting_leaves _ _ _ _ c.loop-i.invariant c.requires.three (
 pub returns : goal.returns
 returns c =
     let s = started _ _ _ _ c.loop-i.invariant c.requires.three (omega arith) _ c.build.ensures.tree c.build.ensures.leaf_same in
-    record { stands = s.0; outline = c.loop-i.invariant.outline; ring = s.1 }
+    record { stands = s.0; outline = c.loop-i.invariant.outline; leaves = c.build.ensures.leaf_same.leaves ∙ c.loop-i.invariant.leaves; ring = s.1 }

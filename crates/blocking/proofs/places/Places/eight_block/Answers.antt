@@ -2,7 +2,7 @@ use Prim.Native.Nat.{◌+◌, ◌-◌}
 use native.Mathlib.Omega.{arith}
 use mathlib.Core.Path.{◌≡◌}
 use Rattle.blocking.proofs.Scans.{next, last}
-use Rattle.blocking.proofs.outline.Outline.eight_block.Goals as goal
+use Rattle.blocking.proofs.places.Places.eight_block.Goals as goal
 
 pub loop-p-preserved : goal.loop-p-preserved
 loop-p-preserved c = next _ _ c.loop-p.hit c.loop-p-test.true c.p-item.is c.blocks-hit.ensures c.loop-p.invariant

@@ -1,8 +1,8 @@
--- `from_edge` meets its contract.
+-- `from_upper` meets its contract.
 use native.Mathlib.Omega.{arith}
 use lib.Ieee.{of_bits}
 use Rattle.blocking.proofs.Stripping.{strip_is}
-use Rattle.blocking.proofs.strips.from_edge.Goals as goal
+use Rattle.blocking.proofs.strips.from_upper.Goals as goal
 
 pub float_to_int-result : goal.float_to_int-result
 unfolding of_bits

@@ -5,14 +5,15 @@ use mathlib.Core.Path.{◌≡◌}
 use lib.Pow.{pow_pos}
 use Rattle.algebra.proofs.Bits.{one_shifted}
 use Rattle.blocking.proofs.Answers.{looked_more, none_there, hit, free}
-use Rattle.blocking.proofs.outline.Outline.blocked.Goals as goal
+use Rattle.blocking.proofs.places.Places.blocked.Goals as goal
 
 pub loop-mask-init : goal.loop-mask-init
 loop-mask-init c = λ g p n. absurd (n p)
 
 pub returns-then-eight_block : goal.returns-then-eight_block
 returns-then-eight_block c =
-    hit _ _ c.args.self.now.outlined _ _ _ c.requires _ c.new-sides.ensures c.ilog2-g.result c.ilog2-g.ensures.bound c.eight_block.ensures c.if-eight_block.true
+    λ ps o.
+    hit ps _ o _ _ _ c.requires _ c.new-sides.ensures c.ilog2-g.result c.ilog2-g.ensures.bound c.eight_block.ensures c.if-eight_block.true
 
 pub loop-mask-smaller : goal.loop-mask-smaller
 loop-mask-smaller c =
@@ -27,4 +28,5 @@ loop-mask-preserved c =
 pub returns : goal.returns
 returns c =
     let none : c.loop-mask.mask ≡ 0 = omega arith in
-    free _ _ c.args.self.now.outlined _ _ _ c.requires _ c.new-sides.ensures _ c.candidates-mask.ensures (λ g h. c.loop-mask.invariant g h (λ q. none_there g (rw none at q)))
+    λ ps o.
+    free ps _ o _ _ _ c.requires _ c.new-sides.ensures _ c.candidates-mask.ensures (λ g h. c.loop-mask.invariant g h (λ q. none_there g (rw none at q)))

@@ -1,9 +1,0 @@
--- `Outline::blocked` meets its contract. The invariant: the eights that are no longer in the mask were looked at.
-use Rattle.blocking.proofs.Answers.{Looked}
-use Rattle.blocking.proofs.outline.Outline.blocked.Given as goal
-
-abbrev pub invariant-loop-mask : goal.invariant-loop-mask
-invariant-loop-mask l = Looked l.sides l.self.places.now.points l.initial.mask l.mask
-
-abbrev pub decreases-loop-mask : goal.decreases-loop-mask
-decreases-loop-mask l = l.mask
