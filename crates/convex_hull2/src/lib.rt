@@ -30,15 +30,17 @@ fn walk(cloud: &Cloud, all: &[u16], right: usize, left: usize, indices: &mut [u3
         list: all,
     };
     let mut ring = Row::new();
-    let mut begun = Row::new();
+    let mut begun = [0u16; MOST_POINTS];
     lay_two(&chosen, right, left, right, &mut ring);
     for _ in 0..all.len() {
         if settled(ring.as_slice()) {
             break;
         }
-        let start = first_unseen(ring.as_slice()).unwrap_or(0);
-        begin_at(ring.as_slice(), start, &mut begun);
-        sweep(cloud, begun.as_slice(), &mut ring);
+        let laid = ring.as_slice();
+        let count = laid.len();
+        let start = first_unseen(laid).unwrap_or(0);
+        begin_at(laid, start, &mut begun);
+        sweep(cloud, &begun[..count], &mut ring);
     }
     let corners = ring.as_slice();
     write_corners(corners, indices);

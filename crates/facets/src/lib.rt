@@ -3,7 +3,7 @@
 
 pub mod cloud;
 
-ghost use Rattle.std.specs.Prelude.{◌≡◌, ◌↔◌, List, [], ◌++◌, map, ◌+◌, ◌≤◌, ◌<◌, length, get_or, drop, slice_index, EachIndex, IsTrue, IfSome, MatchOption};
+ghost use Rattle.std.specs.Prelude.{◌≡◌, ◌↔◌, List, [], ◌++◌, map, ◌+◌, ◌≤◌, ◌<◌, length, get_or, take, drop, slice_index, EachIndex, IsTrue, IfSome, MatchOption};
 ghost use Rattle.algebra.specs.Lists.{Each};
 ghost use Rattle.algebra.specs.Rings.{begun_at, first_of};
 ghost use Rattle.rules.specs.Layout.{over};
@@ -119,14 +119,14 @@ pub fn first_unseen(ring: &[u16]) -> Option<usize>
 }
 
 // Writes the ring, begun at place s.
-pub fn begin_at(ring: &[u16], s: usize, out: &mut Row)
+pub fn begin_at(ring: &[u16], s: usize, out: &mut [u16])
     requires place { s ≤ length ring.now }
-    requires room { length ring.now ≤ most_points }
-    ensures { out.new ≡ begun_at s ring.now }
+    requires room { length ring.now ≤ length out.old }
+    ensures { take (length ring.now) out.new ≡ begun_at s ring.now }
 {
-    out.clear();
-    out.extend(&ring[s..]);
-    out.extend(&ring[..s]);
+    let (front, behind) = ring.split_at(s);
+    out[..behind.len()].copy_from_slice(behind);
+    out[behind.len()..ring.len()].copy_from_slice(front);
 }
 
 // The marked number at place q, or, behind the last, at place 0.

@@ -71,15 +71,6 @@ impl Row {
         self.len += 1;
     }
 
-    pub fn extend(&mut self, from: &[u16])
-        requires { length self.old + length from.now ≤ most_points }
-        ensures { self.new ≡ self.old ++ from.now }
-    {
-        let end = self.len + from.len();
-        self.places[self.len..end].copy_from_slice(from);
-        self.len = end;
-    }
-
     // Adds those of the chosen points that see the facet. Each is written, and the next over it if it does not see the facet, so that no test
     // is waited for.
     pub fn push_seeing(&mut self, chosen: &Chosen, facet: Facet)

@@ -40,8 +40,8 @@ sweep-requires c =
     record {
       held = (
         begun [] on.facets,
-        going_begun _ c.args.cloud.now.few on c.first_unseen.result c.as_slice-in-loop.ensures.same c.as_slice-in-loop-2.ensures.same c.unwrap_or-start.ensures c.first_unseen.ensures.first
-            (c.as_slice-in-loop-3.ensures.same ∙ c.begin_at.ensures),
+        going_begun _ c.args.cloud.now.few on c.first_unseen.result c.as_slice-laid.ensures.same c.as_slice-laid.ensures.same c.unwrap_or-start.ensures c.first_unseen.ensures.first
+            c.begin_at.ensures,
       );
     }
 
@@ -50,8 +50,7 @@ loop-preserved c =
     let next : length c.args.all.now - c.loop.counter ≡ suc (length c.args.all.now - (c.loop.counter + 1)) = omega (arith, c.loop-test.true) in
     let on = subst (Going (listed c.args.cloud.now.points) c.loop.ring) next c.loop.invariant in
     let held =
-    going_begun _ c.args.cloud.now.few on c.first_unseen.result c.as_slice-in-loop.ensures.same c.as_slice-in-loop-2.ensures.same c.unwrap_or-start.ensures c.first_unseen.ensures.first
-    (c.as_slice-in-loop-3.ensures.same ∙ c.begin_at.ensures)
+    going_begun _ c.args.cloud.now.few on c.first_unseen.result c.as_slice-laid.ensures.same c.as_slice-laid.ensures.same c.unwrap_or-start.ensures c.first_unseen.ensures.first c.begin_at.ensures
     in
     going_next _ c.args.cloud.now.few on (c.sweep.ensures (begun [] on.facets) held)
 
