@@ -112,11 +112,13 @@ impl Store {
         if !self.may_hold(g, want) {
             return None;
         }
+        let mut found = None;
         for at in 3 * from.max(8 * g)..3 * count.min(8 * g + 8) {
             if self.edges[at] == want {
-                return Some(at);
+                found = Some(at);
+                break;
             }
         }
-        None
+        found
     }
 }
