@@ -40,13 +40,15 @@ pub fn grow(
         let Some(mate) = later.find_mate(at_e, at_s) else {
             continue;
         };
-        queue.push(s);
         if ring.may_join(points, s, e, mate.third) {
             later.swap_remove(mate.place);
-            queue.push(ring.join(s, e, mate.third));
+            let place = ring.join(s, e, mate.third);
+            queue.push(s);
+            queue.push(place);
             refused = 0;
-        } else {
-            refused += 1;
+            continue;
         }
+        queue.push(s);
+        refused += 1;
     }
 }

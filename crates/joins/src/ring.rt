@@ -84,6 +84,22 @@ impl Ring {
             && !turns_right(points, t, self.corner(e), after)
     }
 
+    // Puts corner t between the places s and e, at another place.
+    pub fn put_between(&mut self, s: usize, e: usize, place: usize, t: usize)
+        requires { (s < 512) × (e < 512) × (place < 512) × (t < 512) }
+        ensures corners { self.new.corners ≡ set self.old.corners place t }
+        ensures next { self.new.next ≡ set (set self.old.next s place) place e }
+        ensures before { self.new.before ≡ set (set self.old.before place s) e place }
+        ensures start { self.new.start ≡ self.old.start }
+        ensures len { self.new.len ≡ self.old.len }
+    {
+        self.corners[place] = t as u16;
+        self.next[s] = place as u16;
+        self.next[place] = e as u16;
+        self.before[place] = s as u16;
+        self.before[e] = place as u16;
+    }
+
     // Puts corner t between the places s and e, at a new place. Corner 0 is then at e.
     pub fn join(&mut self, s: usize, e: usize, t: usize) -> usize
         requires { (s < 512) × (e < 512) × (t < 512) × (self.old.len < 512) }
@@ -96,11 +112,7 @@ impl Ring {
         ensures len { self.new.len ≡ self.old.len + 1 }
     {
         let place = self.len;
-        self.corners[place] = t as u16;
-        self.next[s] = place as u16;
-        self.next[place] = e as u16;
-        self.before[place] = s as u16;
-        self.before[e] = place as u16;
+        self.put_between(s, e, place, t);
         self.start = e;
         self.len += 1;
         place

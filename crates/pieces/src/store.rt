@@ -120,13 +120,15 @@ impl Store {
         if !self.may_hold(g, want) {
             return None;
         }
-        for piece in from.max(8 * g)..count.min(8 * g + 8) {
+        let mut found = None;
+        'search: for piece in from.max(8 * g)..count.min(8 * g + 8) {
             for side in 0..3 {
                 if self.edges[3 * piece + side] == want {
-                    return Some(Found { piece, side });
+                    found = Some(Found { piece, side });
+                    break 'search;
                 }
             }
         }
-        None
+        found
     }
 }
