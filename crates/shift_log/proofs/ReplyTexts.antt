@@ -3,7 +3,7 @@ use Rattle.std.proofs.Common.{ℕ, ◌≤◌, ◌<◌, ◌≡◌, [], ◌∷◌,
 use Prim.Native.Char.{code}
 use Rattle.std.specs.Prelude.{Ok, Err}
 use Rattle.rules.specs.Text.{bytes, natural}
-use Rattle.rules.specs.Playback.{reply_text}
+use Rattle.rules.specs.Playback.{number, reply_text}
 use Rattle.rules.proofs.TextNumbers.{natural_one}
 use Rattle.rules.proofs.TextLengths.{natural-length}
 use Rattle.entries.specs.declared.Refusal.{Refusal}
@@ -12,9 +12,12 @@ use Rattle.point_in_poly2d.specs.declared.Position.TheVariants.{Outside, Inside,
 use Rattle.shift_log.specs.declared.Reply.TheVariants.{Set, At}
 use Rattle.shift_log.specs.Promise.{reply_of}
 
-pub number-text : (r : Refusal) → reply_text (reply_of (Err r)) ≡ natural (number_of r)
+pub natural-text : (n : ℕ) → reply_text (number n) ≡ natural n
 unfolding reply_text
-number-text r = refl
+natural-text n = refl
+
+pub number-text : (r : Refusal) → reply_text (reply_of (Err r)) ≡ natural (number_of r)
+number-text r = natural-text (number_of r)
 
 pub set_text : reply_text (reply_of (Ok Set)) ≡ code "0" ∷ []
 unfolding reply_text
