@@ -88,3 +88,6 @@ module _ (bytes : List ℕ) (n : ℕ) (first : take n bytes ≡ first_line bytes
 -- a part that is lent up to the end
 pub to_the_end : (bytes : List ℕ) (at : ℕ) → take (length bytes - at) (drop at bytes) ≡ drop at bytes
 to_the_end bytes at = take_all (length bytes - at) (drop at bytes) (omega (arith, length-drop at bytes))
+
+pub parted_at : (bytes : List ℕ) {n at : ℕ} → at ≡ n + 1 → Around bytes n → bytes ≡ take n bytes ++ (10 ∷ take (length bytes - at) (drop at bytes))
+parted_at bytes {n} e a = rw (e, to_the_end bytes (n + 1)) a.parts
