@@ -81,6 +81,9 @@ module _ (f : InForce) (room : most_coordinates ≤ length f.coords.now) where
 
 -- ---- a line as it is handed on
 
+pub step_at : {line piece : List ℕ} {f : InForce} {r : Result Reply Refusal} {g : InForce} → line ≡ piece → StepPromise line f r g → StepPromise piece f r g
+step_at {f = f} {r = r} {g = g} e p = subst (λ (l : List ℕ). StepPromise l f r g) e p
+
 -- it was put behind what was carried
 pub step_kept : {old new : Carried} {more : List ℕ} {f : InForce} {r : Result Reply Refusal} {g : InForce} → length old.bytes.now ≡ suc most_bytes → Kept old more new
     → StepPromise (carried_of new) f r g → StepPromise (handed (carried_of old ++ more)) f r g

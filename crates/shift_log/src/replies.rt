@@ -14,6 +14,7 @@ use point_in_poly2d::Position;
 pub const MOST_REPLY: usize = 11;
 
 // Writes a number on a line of its own.
+#[tactic(auto, using(crate::proofs::ReplyTexts::number_short))]
 pub fn write_number(text: &mut Text, n: u32)
     requires { text.old.end + 11 ≤ length text.old.out.now }
     ensures grew { Grew text.old text.new (reply_line (number n)) }
