@@ -4,7 +4,7 @@ use native.Mathlib.Nat.{add_assoc, add-zero, zero-add}
 use native.Mathlib.Numerals.{add-one}
 use native.Mathlib.Omega.{arith}
 use mathlib.Core.Path.{◌≡◌, refl, sym, ap, ap₂, ◌∙◌}
-use mathlib.Core.List.{List, [], ◌∷◌, ◌++◌, append_assoc}
+use mathlib.Core.List.{List, [], ◌∷◌, ◌++◌, append_assoc, append-nil}
 use lib.ListN.{length, take, drop, set, length-append, length-drop, take-append-drop}
 use lib.Seq.{length-take-le, take_all, take_at, drop_at, drop-drop, set_split}
 use borrow.Rule.Slice.PartMut.{put_mid}
@@ -59,6 +59,9 @@ wrote_byte {old} {new} {at} {b} h e = record { is = e ∙ written_one old at b h
 
 pub wrote-length : {old new : List ℕ} {at end : ℕ} {s : List ℕ} → Wrote old new at end s → length new ≡ length old
 wrote-length {old} {new} {at} {end} {s} w = ap length w.is ∙ length-written old at s w.room.fits
+
+pub wrote_as : {old new : List ℕ} {at end : ℕ} {s t : List ℕ} → t ≡ s → Wrote old new at end s → Wrote old new at end t
+wrote_as e w = rw e w
 
 pub wrote_then : {a b c : List ℕ} {i j k : ℕ} {s t : List ℕ} → Wrote a b i j s → Wrote b c j k t → Wrote a c i k (s ++ t)
 wrote_then {a} {b} {c} {i} {j} {k} {s} {t} w v =
@@ -117,6 +120,10 @@ partly_more s t p g = record { done = p.done ++ s; whole = p.whole ∙ sym (appe
 -- the last part is written
 pub partly_end : {a b c : Text} {text left : List ℕ} → Partly a b text left → Grew b c left → Grew a c text
 partly_end p g = grew_as p.whole (grew_then p.grew g)
+
+-- nothing is left
+pub partly_whole : {old new : Text} {text : List ℕ} → Partly old new text [] → Grew old new text
+partly_whole p = grew_as (p.whole ∙ append-nil p.done) p.grew
 
 -- what is left was written in parts itself
 pub partly_then : {a b c : Text} {text mid left : List ℕ} → Partly a b text mid → Partly b c mid left → Partly a c text left

@@ -184,13 +184,13 @@ module _ {line : List ℕ} (out : List ℕ) {cs : List Float} {triangles : List 
 
     -- of what the merger promises
     module _ {count : ℕ} {indices' lengths' : List ℕ} (p : Promise cs triangles indices lengths (answer_of (Ok count)) indices' lengths') where
-      areas_count : count ≡ length (areas_for corners)
+      pub areas_count : count ≡ length (areas_for corners)
       areas_count = p.count ∙ ap (λ (w : Merging). w.count) answered
 
-      areas_few : count ≤ most_triangles
+      pub areas_few : count ≤ most_triangles
       areas_few = omega (arith, areas_count, few-pieces areas_kept.three, areas_kept.size, outline.outline.at_most)
 
-      areas_stand : indices ≡ replicate most_indices 0 → Stands cs (areas_for corners) indices' (take count lengths')
+      pub areas_stand : indices ≡ replicate most_indices 0 → Stands cs (areas_for corners) indices' (take count lengths')
       areas_stand zeros =
           let is : indices' ≡ flatten (areas_for corners) ++ drop (length (flatten (areas_for corners))) indices = p.indices_are ∙ ap (λ (w : Merging). w.indices) answered in
           let ls : take count lengths' ≡ map length (areas_for corners)

@@ -1,10 +1,10 @@
 -- The first line of some bytes ends where the first newline stands.
-use Rattle.std.proofs.Common.{ℕ, ◌+◌, ◌-◌, ◌≡◌, ◌≢◌, ◌<◌, Bool, true, false, cond, List, [], ◌∷◌, ◌++◌, length, take, drop, get_or, ap, sym, refl, subst, ◌∙◌, add-one, one-add, arith, position, Option, Some, None}
+use Rattle.std.proofs.Common.{ℕ, suc, ◌+◌, ◌-◌, ◌≡◌, ◌≢◌, ◌<◌, Bool, true, false, cond, List, [], ◌∷◌, ◌++◌, length, take, drop, get_or, ap, sym, refl, subst, ◌∙◌, add-one, one-add, arith, position, Option, Some, None, length-take}
 use mathlib.Core.Bool.{not}
 use lib.Dec.{eqb, ltb}
 use lib.Seq.{take_all, drop-cons}
 use lib.ListN.{length-drop, take-append-drop}
-use borrow.Author.Tests.{eqb-true, eqb-false, ltb-true, ltb-false}
+use borrow.Author.Tests.{eqb-true, eqb-false, ltb-true, ltb-false, lt-ltb}
 use Rattle.std.specs.Prelude.{unwrap_or}
 use Rattle.std.specs.List.{position_or_len}
 use Rattle.std.proofs.lemmas.List.Sums.{passes_at_first}
@@ -34,6 +34,9 @@ none_in_front (b ∷ bytes) = go (eqb b 10) refl (none_in_front bytes)
     go : (t : Bool) → eqb b 10 ≡ t → NoNewline (take (newline_at bytes) bytes) → NoNewline (take (cond (not t) (1 + newline_at bytes) 0) (b ∷ bytes))
     go true e h = end
     go false e h = rw (one-add (newline_at bytes)) (eqb-false b 10 e & h)
+
+pub no_newline : (bytes : List ℕ) → NoNewline (first_line bytes)
+no_newline bytes = subst NoNewline (first_is bytes) (none_in_front bytes)
 
 -- ---- by what `position` gives
 
@@ -71,6 +74,20 @@ module _ (bytes : List ℕ) where
       go true h f = let same : newline_at bytes ≡ n = cc in subst Around same (there (ltb-true (newline_at bytes) (length bytes) h))
       go false h f = cc
 
+-- by where the first line ends
+module _ (bytes : List ℕ) (n : ℕ) (first : take n bytes ≡ first_line bytes) where
+  pub taken_no_newline : NoNewline (take n bytes)
+  taken_no_newline = subst NoNewline (sym first) (no_newline bytes)
+
+  pub line-ended : n < length bytes → bytes ≡ take n bytes ++ (10 ∷ drop (suc n) bytes)
+  line-ended h =
+      let k : newline_at bytes ≡ n = omega (arith, h, ap length (first ∙ sym (first_is bytes)), length-take n bytes, length-take (newline_at bytes) bytes) in
+      let there : Some n ≡ position (λ b. eqb b 10) bytes = rw (k, lt-ltb n (length bytes) h) refl in
+      rw (← add-one n) (around bytes there).parts
+
 -- a part that is lent up to the end
 pub to_the_end : (bytes : List ℕ) (at : ℕ) → take (length bytes - at) (drop at bytes) ≡ drop at bytes
 to_the_end bytes at = take_all (length bytes - at) (drop at bytes) (omega (arith, length-drop at bytes))
+
+pub parted_at : (bytes : List ℕ) {n at : ℕ} → at ≡ n + 1 → Around bytes n → bytes ≡ take n bytes ++ (10 ∷ take (length bytes - at) (drop at bytes))
+parted_at bytes {n} e a = rw (e, to_the_end bytes (n + 1)) a.parts

@@ -25,3 +25,7 @@ module _ (old : List ℕ) (held : ℕ) (more : List ℕ) (h : held ≤ length ol
         let e : held + n ≡ held + length mid = omega (arith, size) in
         let k : n ≡ min room (length more) = omega arith in
         take-put_mid held (held + n - held) old mid (held + n) e h ∙ ap (λ (l : List ℕ). take held old ++ l) (copied ∙ ap (λ (i : ℕ). take i more) k) ∙ sym held-text
+
+    -- by where the bytes that are held end
+    pub kept_up_to : {end : ℕ} → end ≡ held + n → take end (put_mid held (held + n - held) old mid) ≡ take (length old) (take held old ++ more)
+    kept_up_to e = rw e text_kept

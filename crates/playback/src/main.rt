@@ -4,6 +4,7 @@
 
 ghost use Rattle.std.specs.Prelude.{OnOk, suc, ◌*◌, ◌≤◌, ◌≡◌, length};
 ghost use Rattle.std.specs.Io.KnownBytes.{Appends};
+ghost use Rattle.rules.specs.Limits.{most_coordinates};
 ghost use Rattle.rules.specs.Text.{most_bytes};
 
 use entries::MOST_COORDINATES;
@@ -53,6 +54,7 @@ fn play_all<R: Read, W: Write>(
     out: &mut [u8],
 ) -> Result<(), Failure>
     requires carried { length log.old.carried.bytes.now ≡ suc most_bytes }
+    requires coords { most_coordinates ≤ length log.old.in_force.coords.now }
     requires reply { 11 ≤ length out.old }
     requires replies { 11 * length list.old ≤ length out.old }
 {

@@ -51,12 +51,11 @@ reply_one (Err r) (Err s) e = ap (λ (x : Refusal). Err x) (number_one r s (ap t
 -- what is lent and what is in force then
 pub record SameInForce (f g : InForce) : Type 0 where
   pub coords : f.coords.now ≡ g.coords.now
-  pub corners : f.corners ≡ g.corners
-  pub convex : f.convex ≡ g.convex
+  pub force : f.force ≡ g.force
 
 stands_one : (o : Option RulesInForce) (f : InForce) {g h : InForce} → Stands o f g → Stands o f h → SameInForce g h
-stands_one none f (a, b, c) (d, e, k) = record { coords = a ∙ sym d; corners = b ∙ sym e; convex = c ∙ sym k }
-stands_one (some s) f (a, b, c) (d, e, k) = record { coords = a ∙ sym d; corners = b ∙ sym e; convex = c ∙ sym k }
+stands_one none f (a, b) (d, e) = record { coords = a ∙ sym d; force = b ∙ sym e }
+stands_one (some s) f (a, b) (d, e) = record { coords = a ∙ sym d; force = b ∙ sym e }
 
 pub unique : (line : List ℕ) (f : InForce) (r s : Result Reply Refusal) (g h : InForce) → StepPromise line f r g → StepPromise line f s h → (r ≡ s) × SameInForce g h
 unique line f r s g h p q =

@@ -85,10 +85,10 @@ module _ {bytes : List ℕ} {old log : Log} {before after : Text} {rest : List �
           lent = lent_then w.lent l.lent;
         }
 
-  pub playing_done : {carried : Carried} {room : _} {out' : List ℕ} → before.end ≡ 0 → NoNewline rest → Kept log.carried rest carried → out' ≡ after.out.now
-      → PlayPromise bytes (carried_of old.carried) (in_force_of old.in_force) before.out.now (record { carried = carried; in_force = log.in_force; room = room }) after.end out'
+  pub playing_done : {carried : Carried} {out' : List ℕ} → before.end ≡ 0 → NoNewline rest → Kept log.carried rest carried → out' ≡ after.out.now
+      → PlayPromise bytes (carried_of old.carried) (in_force_of old.in_force) before.out.now (record { carried = carried; in_force = log.in_force }) after.end out'
   unfolding handed
-  playing_done {carried} {room} {out'} begins h k e =
+  playing_done {carried} {out'} begins h k e =
       let run : take_bytes (carried_of log.carried) rest ≡ record { ended = []; carried = handed (carried_of log.carried ++ rest) } = run_on (carried_of log.carried) rest short h in
       let all : take_bytes (carried_of old.carried) bytes ≡ record { ended = w.lines ++ []; carried = handed (carried_of log.carried ++ rest) } = w.left ∙ ap (λ (t : Taken). behind w.lines t) run in
       record {

@@ -66,16 +66,16 @@ module _ (corners : List Pt) where
 
 module _ {given : RulesReply} {set : Option RulesInForce} {f : InForce} {r : Result Reply Refusal} where
   pub stayed : set ≡ none → reply_of r ≡ given → Stepped given set f r f
-  stayed e a = subst (λ (s : Option RulesInForce). Stepped given s f r f) (sym e) (record { replied = a; stands = (refl, refl, refl); same_coords = refl; coords_len = refl })
+  stayed e a = subst (λ (s : Option RulesInForce). Stepped given s f r f) (sym e) (record { replied = a; stands = (refl, refl); same_coords = refl; coords_len = refl })
 
   pub too_little_lem : (s : RulesInForce) → set ≡ some s → length f.coords.now < length s.coords → reply_of r ≡ number 6 → Stepped given set f r f
   too_little_lem s e h a =
       let t = lt-ltb (length f.coords.now) (length s.coords) h in
-      subst (λ (o : Option RulesInForce). Stepped given o f r f) (sym e) (record { replied = rw t a; stands = rw t (refl, refl, refl); same_coords = refl; coords_len = refl })
+      subst (λ (o : Option RulesInForce). Stepped given o f r f) (sym e) (record { replied = rw t a; stands = rw t (refl, refl); same_coords = refl; coords_len = refl })
 
   pub was_put : {g : InForce} (s : RulesInForce) → set ≡ some s → length s.coords ≤ length f.coords.now → reply_of r ≡ given
-      → g.coords.now ≡ over s.coords f.coords.now → g.corners ≡ length s.coords / 2 → g.convex ≡ s.convex → g.coords.ghost_name ≡ f.coords.ghost_name → Stepped given set f r g
-  was_put {g} s e h a b c d same =
+      → g.coords.now ≡ over s.coords f.coords.now → g.force ≡ record { corners = length s.coords / 2; convex = s.convex } → g.coords.ghost_name ≡ f.coords.ghost_name → Stepped given set f r g
+  was_put {g} s e h a b c same =
       let t = le-ltb (length f.coords.now) (length s.coords) h in
       subst (λ (o : Option RulesInForce). Stepped given o f r g) (sym e)
-      (record { replied = rw t a; stands = rw t (b, c, d); same_coords = same; coords_len = ap length b ∙ length_over s.coords f.coords.now h })
+      (record { replied = rw t a; stands = rw t (b, c); same_coords = same; coords_len = ap length b ∙ length_over s.coords f.coords.now h })

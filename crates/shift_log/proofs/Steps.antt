@@ -58,20 +58,20 @@ module _ (own : List Float) (convex : Bool) (f : InForce) where
         (subst (λ (l : List Float). length f.coords.now < length l) e h) refl
 
     pub put_done : {now : List Float} → length own ≤ length f.coords.now → now ≡ over own f.coords.now
-        → PutPromise own convex f (Ok Set) (record { coords = record { ref_ptr = f.coords.ref_ptr; ghost_name = f.coords.ghost_name; now = now }; corners = length own / 2; convex = convex })
+        → PutPromise own convex f (Ok Set) (record { coords = record { ref_ptr = f.coords.ref_ptr; ghost_name = f.coords.ghost_name; now = now }; force = record { corners = length own / 2; convex = convex } })
     put_done h d corners few e =
         let q = accepted corners few e in
         was_put (record { coords = coordinates corners; convex = convex }) (is_put corners convex q) (subst (λ (l : List Float). length l ≤ length f.coords.now) e h)
-        (ap number (sym q)) (d ∙ ap (λ (l : List Float). over l f.coords.now) e) (ap (λ (l : List Float). length l / 2) e) refl refl
+        (ap number (sym q)) (d ∙ ap (λ (l : List Float). over l f.coords.now) e) (ap (λ (l : List Float). record { corners = length l / 2; convex = convex }) e) refl
 
 module _ {line : List ℕ} {f : InForce} where
-  pub step-point : {r : Result Reply Refusal} {x y : Float} → PointRead line x y → reply_of r ≡ told (asking (test_of f.convex) x y (take (2 * f.corners) f.coords.now)) → StepPromise line f r f
+  pub step-point : {r : Result Reply Refusal} {x y : Float} → PointRead line x y → reply_of r ≡ told (asking (test_of f.force.convex) x y (take (2 * f.force.corners) f.coords.now)) → StepPromise line f r f
   unfolding reply sets
   step-point {x = x} {y = y} p e = record {
     event = some (point p.p);
     meant = point-means p;
     stepped = stayed refl
-        (e ∙ ap₂ (λ (a b : Float). told (asking (test_of f.convex) a b (take (2 * f.corners) f.coords.now))) p.worth-x p.worth-y ∙ ap told (sym (asked_by f.convex _ _ _)));
+        (e ∙ ap₂ (λ (a b : Float). told (asking (test_of f.force.convex) a b (take (2 * f.force.corners) f.coords.now))) p.worth-x p.worth-y ∙ ap told (sym (asked_by f.force.convex _ _ _)));
   }
 
   module _ {n : ℕ} {own : List Float} (p : OutlineRead (bytes "POLYGON ((") line n own) where

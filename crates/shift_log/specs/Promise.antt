@@ -18,7 +18,7 @@ use Rattle.shift_log.specs.declared.Reply.TheVariants.{Set, At}
 
 -- the coordinates in force stand at the front of what is lent
 abbrev pub in_force_of : InForce → RulesInForce
-in_force_of f = record { coords = take (2 * f.corners) f.coords.now; convex = f.convex }
+in_force_of f = record { coords = take (2 * f.force.corners) f.coords.now; convex = f.force.convex }
 
 abbrev pub reply_of : Result Reply Refusal → RulesReply
 reply_of (Ok Set) = number 0
@@ -41,8 +41,8 @@ too_little room (some s) = ltb room (length s.coords)
 
 -- what is lent and what is in force, before and after: what is set is written to the front, and if nothing is set all stays as it was
 abbrev pub Stands : Option RulesInForce → InForce → InForce → Type 0
-Stands none f g = (g.coords.now ≡ f.coords.now) × (g.corners ≡ f.corners) × (g.convex ≡ f.convex)
-Stands (some s) f g = (g.coords.now ≡ over s.coords f.coords.now) × (g.corners ≡ length s.coords / 2) × (g.convex ≡ s.convex)
+Stands none f g = (g.coords.now ≡ f.coords.now) × (g.force ≡ f.force)
+Stands (some s) f g = (g.coords.now ≡ over s.coords f.coords.now) × (g.force ≡ record { corners = length s.coords / 2; convex = s.convex })
 
 -- a line with this reply, which sets this: 6 where too little is lent for it
 pub record Stepped (given : RulesReply) (set : Option RulesInForce) (f : InForce) (r : Result Reply Refusal) (g : InForce) : Type 0 where

@@ -17,13 +17,19 @@ use grid::off_grid;
 use point_in_poly2d::{Position, ask};
 use wkt::read::{read_outline, read_point_line};
 
-// The outline in force: its coordinates stand at the front of what is lent, and the convex test or the outline test answers for it. Before any
-// outline there are no corners, and the outline test answers.
+// What is in force beside coordinates: how many corners the outline has, and whether the convex test answers for it. Before any outline there are
+// no corners, and the outline test answers.
+#[derive(Clone, Copy, Debug, PartialEq, Eq)]
+pub struct Force {
+    pub corners: usize,
+    pub convex: bool,
+}
+
+// The outline in force: its coordinates stand at the front of what is lent.
 #[derive(Drop)]
 pub struct InForce<'a> {
     pub coords: &'a mut [f32],
-    pub corners: usize,
-    pub convex: bool,
+    pub force: Force,
 }
 
 // What a line is answered that is not refused.
@@ -38,10 +44,10 @@ pub enum Reply {
 impl InForce<'_> {
     // What a point is told by the test in force.
     fn tell(&self, x: f32, y: f32) -> Result<Position, Refusal>
-        ensures { point_reply result ≡ Rules.told (asking (test_of self.now.convex) x y (take (2 * self.now.corners) self.now.coords.now)) }
+        ensures { point_reply result ≡ Rules.told (asking (test_of self.now.force.convex) x y (take (2 * self.now.force.corners) self.now.coords.now)) }
     {
-        let n = self.corners.saturating_mul(2).min(self.coords.len());
-        ask(x, y, &self.coords[..n], self.convex)
+        let n = self.force.corners.saturating_mul(2).min(self.coords.len());
+        ask(x, y, &self.coords[..n], self.force.convex)
     }
 
     // Puts an outline in force that has these coordinates and not too many corners, if it is not refused.
@@ -55,8 +61,10 @@ impl InForce<'_> {
             return Err(Refusal::TooLittleRoom);
         }
         self.coords[0..own.len()].copy_from_slice(own);
-        self.corners = own.len() / 2;
-        self.convex = convex;
+        self.force = Force {
+            corners: own.len() / 2,
+            convex,
+        };
         Ok(Reply::Set)
     }
 

@@ -1,7 +1,4 @@
 // What is kept from read to read.
-ghost use Rattle.std.specs.Prelude.{◌≤◌, length};
-ghost use Rattle.rules.specs.Limits.{most_coordinates};
-
 use crate::InForce;
 use lines::carried::Carried;
 
@@ -10,5 +7,4 @@ use lines::carried::Carried;
 pub struct Log<'a> {
     pub carried: Carried<'a>,
     pub in_force: InForce<'a>,
-    ghost room: { most_coordinates ≤ length in_force.coords.now },
 }

@@ -1,5 +1,5 @@
-use Rattle.std.proofs.Common.{◌+◌}
-use Rattle.lines.proofs.FirstLine.{none_there, around, to_the_end}
+use Rattle.std.proofs.Common.{arith}
+use Rattle.lines.proofs.FirstLine.{none_there, around, parted_at}
 use Rattle.lines.proofs.split_line.Goals as goal
 
 pub returns-in_err-n-clause-no_newline : goal.returns-in_err-n-clause-no_newline
@@ -9,4 +9,4 @@ pub returns-clause-line : goal.returns-clause-line
 returns-clause-line c = (around c.args.bytes.now c.in_ok-n.ensures).line
 
 pub returns-clause-parts : goal.returns-clause-parts
-returns-clause-parts c = rw (to_the_end c.args.bytes.now (c.in_ok-n.n + 1)) (around c.args.bytes.now c.in_ok-n.ensures).parts
+returns-clause-parts c = parted_at c.args.bytes.now (omega arith) (around c.args.bytes.now c.in_ok-n.ensures)

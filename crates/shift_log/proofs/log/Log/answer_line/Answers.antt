@@ -5,7 +5,7 @@ use Rattle.shift_log.proofs.log.Log.answer_line.Goals as goal
 pub returns : goal.returns
 returns c = record {
   text = _;
-  played = step-played _ c.args.self.now.room c.play_line-reply.ensures.step;
+  played = step-played _ c.requires.coords_len c.play_line-reply.ensures.step;
   grew = c.write_reply.ensures.grew;
   few = c.write_reply.ensures.at_most;
   none_held = refl;
