@@ -1,5 +1,5 @@
 // A stream of bytes, read by read: the lines that end are answered, and what is left is carried to the next read.
-ghost use Rattle.std.specs.Prelude.{◌≡◌, [], ◌++◌, suc, ◌+◌, ◌*◌, ◌≤◌, length, take};
+ghost use Rattle.std.specs.Prelude.{◌≡◌, [], ◌++◌, suc, ◌+◌, ◌*◌, ◌≤◌, false, length, take};
 ghost use Rattle.rules.specs.Limits.{most_coordinates};
 ghost use Rattle.rules.specs.Text.{most_bytes};
 ghost use Rattle.rules.specs.Stream.{handed, last_line};
@@ -24,6 +24,8 @@ impl<'a> Log<'a> {
     pub fn new(carried: &'a mut [u8], coords: &'a mut [f32]) -> Log<'a>
         ensures nothing_carried { carried_of result.carried ≡ [] }
         ensures nothing_in_force { in_force_of result.in_force ≡ nothing_yet }
+        ensures held { result.carried.held ≡ 0 }
+        ensures force { result.in_force.force ≡ record { corners = 0; convex = false } }
         ensures carried { result.carried.bytes.now ≡ carried.old }
         ensures coords { result.in_force.coords.now ≡ coords.old }
         ensures same_carried { result.carried.bytes.ghost_name ≡ carried.entry.ghost_name }
