@@ -37,7 +37,7 @@ struct Tally {
     different: usize,
     // the number of the first record with a difference, counted from 1
     first: Option<usize>,
-    ghost known_first: { IfSome first (λ record. record ≤ records) },
+    ghost known_first: { IfSome first (λ n. n ≤ records) },
     ghost few_inputs: { inputs ≤ 2048 * records },
     ghost few_different: { different ≤ 2048 * records },
 }
