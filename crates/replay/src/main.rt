@@ -4,6 +4,7 @@
 mod record;
 
 ghost use Rattle.std.specs.Prelude.{◌≡◌, ◌+◌, ◌*◌, ◌^◌, ◌<◌, ◌≤◌, length, IfOk, IfSome};
+ghost use Rattle.std.proofs.Props.{props};
 
 use input::more;
 use record::{NoRecord, Record};
@@ -37,7 +38,7 @@ struct Tally {
     different: usize,
     // the number of the first record with a difference, counted from 1
     first: Option<usize>,
-    ghost known_first: { IfSome first (λ n. n ≤ records) },
+    ghost known_first: { IfSome first (λ n. n ≤ records) } by { Prim.hlevel props },
     ghost few_inputs: { inputs ≤ 2048 * records },
     ghost few_different: { different ≤ 2048 * records },
 }
