@@ -40,15 +40,13 @@ pub fn grow(
         let Some(mate) = later.find_mate(at_e, at_s) else {
             continue;
         };
+        queue.push(s);
         if ring.may_join(points, s, e, mate.third) {
             later.swap_remove(mate.place);
-            let place = ring.join(s, e, mate.third);
-            queue.push(s);
-            queue.push(place);
+            queue.push(ring.join(s, e, mate.third));
             refused = 0;
-            continue;
+        } else {
+            refused += 1;
         }
-        queue.push(s);
-        refused += 1;
     }
 }

@@ -42,8 +42,8 @@ pub swap_remove-requires : goal.swap_remove-requires
 swap_remove-requires c =
     there c.loop-refused.invariant c.len.ensures c.loop-refused-test.true c.pop-s.ensures c.next-e.ensures c.corner-at_s.ensures c.corner-at_e.ensures _ c.in-Some.ensures
 
-pub join-place-requires : goal.join-place-requires
-join-place-requires c =
+pub join-requires : goal.join-requires
+join-requires c =
     let r = readable c.loop-refused.invariant c.len.ensures c.loop-refused-test.true c.pop-s.ensures c.next-e.ensures in
     let low = third_low c.loop-refused.invariant c.len.ensures c.loop-refused-test.true c.pop-s.ensures c.next-e.ensures c.corner-at_s.ensures c.corner-at_e.ensures _ c.in-Some.ensures in (
       r.at_s.place,
@@ -58,8 +58,7 @@ push-requires-clause-room c = omega (arith, queue_short c.loop-refused.invariant
 pub push-requires-clause-place : goal.push-requires-clause-place
 push-requires-clause-place c =
     let r = readable c.loop-refused.invariant c.len.ensures c.loop-refused-test.true c.pop-s.ensures c.next-e.ensures in
-    let low = room c.loop-refused.invariant c.len.ensures c.loop-refused-test.true c.pop-s.ensures c.next-e.ensures c.corner-at_s.ensures c.corner-at_e.ensures _ c.in-Some.ensures c.may_join.ensures c.if-may_join.true in
-    omega (arith, r.at_s.place, low, c.join-place.ensures.place)
+    omega arith
 
 pub push-requires-then-may_join-clause-room : goal.push-requires-then-may_join-clause-room
 push-requires-then-may_join-clause-room c =
@@ -68,30 +67,22 @@ push-requires-then-may_join-clause-room c =
 pub push-requires-then-may_join-clause-place : goal.push-requires-then-may_join-clause-place
 push-requires-then-may_join-clause-place c =
     let low = room c.loop-refused.invariant c.len.ensures c.loop-refused-test.true c.pop-s.ensures c.next-e.ensures c.corner-at_s.ensures c.corner-at_e.ensures _ c.in-Some.ensures c.may_join.ensures c.if-may_join.true in
-    omega (arith, low, c.join-place.ensures.place)
-
-pub push-requires-in-loop-refused-clause-room : goal.push-requires-in-loop-refused-clause-room
-push-requires-in-loop-refused-clause-room c = omega (arith, queue_short c.loop-refused.invariant, len_low c.loop-refused.invariant, ap length c.pop-s.ensures)
-
-pub push-requires-in-loop-refused-clause-place : goal.push-requires-in-loop-refused-clause-place
-push-requires-in-loop-refused-clause-place c =
-    let r = readable c.loop-refused.invariant c.len.ensures c.loop-refused-test.true c.pop-s.ensures c.next-e.ensures in
-    omega arith
+    omega (arith, low, c.join.ensures.place)
 
 pub loop-refused-preserved : goal.loop-refused-preserved
 loop-refused-preserved c =
-    rw c.push-in-loop-refused.ensures
+    rw c.push.ensures
     (grow_refused c.loop-refused.invariant c.len.ensures c.loop-refused-test.true c.pop-s.ensures c.next-e.ensures c.corner-at_s.ensures c.corner-at_e.ensures _ c.in-Some.ensures c.may_join.ensures c.if-may_join.false)
 
 pub loop-refused-preserved-then-may_join : goal.loop-refused-preserved-then-may_join
 loop-refused-preserved-then-may_join c =
-    let j = c.join-place.ensures in
+    let j = c.join.ensures in
     rw (c.push-then-may_join.ensures, c.push.ensures, j.place, c.swap_remove.ensures)
     (grow_joined c.loop-refused.invariant c.len.ensures c.loop-refused-test.true c.pop-s.ensures c.next-e.ensures c.corner-at_s.ensures c.corner-at_e.ensures _ c.in-Some.ensures c.may_join.ensures c.if-may_join.true j.sizes j.corners j.next j.before j.start j.len)
 
 pub loop-refused-smaller-then-may_join : goal.loop-refused-smaller-then-may_join
 loop-refused-smaller-then-may_join c =
-    let j = c.join-place.ensures in
+    let j = c.join.ensures in
     rw (c.push-then-may_join.ensures, c.push.ensures, j.place, c.swap_remove.ensures)
     (nearer c.loop-refused.invariant c.len.ensures c.loop-refused-test.true c.pop-s.ensures c.next-e.ensures c.corner-at_s.ensures c.corner-at_e.ensures _ c.in-Some.ensures c.may_join.ensures c.if-may_join.true j.sizes j.corners j.next j.before j.start j.len)
 
