@@ -26,7 +26,7 @@ use Rattle.winners.specs.declared.Winners.{Winners}
 use Rattle.vertices.specs.Ears.{ear_of}
 use Rattle.vertices.specs.declared.Vertex.{Vertex}
 use Rattle.vertices.specs.declared.Vertices.{Vertices}
-use Rattle.vertices.specs.Vertices.{points_in, count_in, prev_of, next_of, active_of, corner_at, linked_corner, ring_in, Ringed, Eared, Stands, Clipped, lowest_from}
+use Rattle.vertices.specs.Vertices.{points_in, count_in, prev_of, next_of, active_of, corner_at, linked_corner, ring_in, Ringed, Eared, Stands, lowest_from}
 use Rattle.ear_clipping.specs.Store.{put3}
 use Rattle.ear_clipping.specs.Promise.{Written}
 use Rattle.vertices.proofs.Links.{corners-map, without-length}
@@ -182,18 +182,20 @@ module _ (ps : List Pt) (proper : (c : Corner ℕ) → Proper (ear_of ps c)) (k 
       pub clip_two : 2 ≤ length (ring_in (count_in s) s.ring)
       clip_two = rw h.points (omega (arith, h.ring_size, more_left))
 
-      pub inv_more : (triangles' : List ℕ) (s' : Vertices) → triangles' ≡ put3 triangles (3 * k) (prev_of s.ring i) i (next_of s.ring i) → Clipped s i s' → Inv ps (k + 1) triangles' s'
-      inv_more triangles' s' put c =
-          let p : points_in s' ≡ ps = ap (λ (o : Outline). listed o.points.now) c.outline ∙ h.points in
-          let ring : ring_in n s'.ring ≡ without i (ring_in n s.ring) = rw h.points at c.ring in
+      pub inv_more :
+          (triangles' : List ℕ) (s' : Vertices) → triangles' ≡ put3 triangles (3 * k) (prev_of s.ring i) i (next_of s.ring i) → Stands s' → s'.outline.now ≡ s.outline.now
+          → ring_in (count_in s) s'.ring ≡ without i (ring_in (count_in s) s.ring) → Inv ps (k + 1) triangles' s'
+      inv_more triangles' s' put stands outline clipped =
+          let p : points_in s' ≡ ps = ap (λ (o : Outline). listed o.points.now) outline ∙ h.points in
+          let ring : ring_in n s'.ring ≡ without i (ring_in n s.ring) = rw h.points at clipped in
           let e : 3 * (k + 1) ≡ 3 * k + 3 = omega arith in
           let f : n - (k + 1) - 3 ≡ n - k - 1 - 3 = omega arith in
           record {
             points = p;
             left = omega arith;
             size = ap length put ∙ put_size (prev_of s.ring i) i (next_of s.ring i);
-            ringed = rw p at c.stands.ringed;
-            eared = rw p at c.stands.eared;
+            ringed = rw p at stands.ringed;
+            eared = rw p at stands.eared;
             ring_size = omega (arith, h.ring_size, ring_less ps proper n s.ring s.winners h.ringed h.eared i is s'.ring ring);
             written = h.written ++ corner_at s.ring i ∷ [];
             store = rw (e, put) (put_store i);

@@ -238,17 +238,18 @@ module _ {edges eights : List ℕ} {from count e s : ℕ} (known : Lie edges eig
       pub seek_none : word ≡ 0 → Mated pieces e s None
       seek_none z = found_none g (sym at.word_is ∙ z) at.passed
 
-      found_at_place :
+      pub seek_found :
           (place : ℕ) → Within edges want g from count (Some place) → (third : ℕ) → third ≡ start_of (get_or edges (3 * (place / 3) + (place % 3 + 2) % 3) 0)
           → Mated pieces e s (Some (record { place = place / 3 - from; third = third }))
-      found_at_place place w third is =
+      seek_found place w third is =
           let v : Within edges (edge_of e s) g from count (Some place) = rw at.want_is at w in
           found_at place v.2 v.3 (passed_at g place at.passed v) v.4 third is
 
-      pub seek_found :
+      -- by the piece, and which of its edges it is
+      pub seek_found_side :
           (piece side : ℕ) → side < 3 → Within edges want g from count (Some (3 * piece + side)) → (third : ℕ) → third ≡ start_of (get_or edges (3 * piece + (side + 2) % 3) 0)
           → Mated pieces e s (Some (record { place = piece - from; third = third }))
-      seek_found piece side low w third is =
+      seek_found_side piece side low w third is =
           let whole : (3 * piece + side) / 3 ≡ piece = omega (arith, low) in
           let rest : (3 * piece + side) % 3 ≡ side = omega (arith, low) in
-          rw whole at (found_at_place (3 * piece + side) w third (rw (whole, rest) is))
+          rw whole at (seek_found (3 * piece + side) w third (rw (whole, rest) is))

@@ -71,6 +71,15 @@ impl Row {
         self.len += 1;
     }
 
+    pub fn extend(&mut self, from: &[u16])
+        requires { length self.old + length from.now ≤ most_points }
+        ensures { self.new ≡ self.old ++ from.now }
+    {
+        let end = self.len + from.len();
+        self.places[self.len..end].copy_from_slice(from);
+        self.len = end;
+    }
+
     // Adds those of the chosen points that see the facet. Each is written, and the next over it if it does not see the facet, so that no test
     // is waited for.
     pub fn push_seeing(&mut self, chosen: &Chosen, facet: Facet)
@@ -86,5 +95,20 @@ impl Row {
             end += usize::from(limit < n.dot(chosen.points.at(usize::from(j)).vector()));
         }
         self.len = end;
+    }
+}
+
+#[cfg(test)]
+mod tests {
+    use super::*;
+
+    #[test]
+    fn numbers_behind_numbers(rt: HostRuntime) {
+        let mut row = Row::new();
+        row.extend(&[3, 1]);
+        row.push(4);
+        row.extend(&[]);
+        row.extend(&[1, 5]);
+        assert_eq!(rt; row.as_slice(), [3, 1, 4, 1, 5].as_slice());
     }
 }

@@ -35,7 +35,8 @@ clip-requires c = record {
 
 pub loop-k-preserved : goal.loop-k-preserved
 loop-k-preserved c =
-    inv_more _ (proper _ c.args.outline.now.points.now.on_grid) _ _ _ c.loop-k.invariant c.args.outline.now.outlined.small (omega (arith, c.loop-k-test.true, c.count-n.ensures)) _ c.in-Some.ensures _ _ c.put.ensures c.clip.ensures
+    inv_more _ (proper _ c.args.outline.now.points.now.on_grid) _ _ _ c.loop-k.invariant c.args.outline.now.outlined.small (omega (arith, c.loop-k-test.true, c.count-n.ensures)) _ c.in-Some.ensures _ _ c.put.ensures c.clip.ensures.stands
+    c.clip.ensures.outline c.clip.ensures.ring
 
 pub put-requires-2 : goal.put-requires-2
 put-requires-2 c =

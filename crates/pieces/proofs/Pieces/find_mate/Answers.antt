@@ -5,7 +5,7 @@ use lib.Bits.{and_le_l}
 use lib.ListN.{get_or}
 use Rattle.std.proofs.Common.{rules}
 use mathlib.Core.Path.{refl}
-use Rattle.pieces.proofs.Searching.{seek_first, skip_low, seek_skip, seek_next, seek_none, seek_found}
+use Rattle.pieces.proofs.Searching.{seek_first, skip_low, seek_skip, seek_next, seek_none, seek_found_side}
 use Rattle.pieces.proofs.Pieces.find_mate.Goals as goal
 
 pub loop-word-init : goal.loop-word-init
@@ -28,4 +28,4 @@ returns c = rw (← c.self.view_is) (seek_none c.self.invariant c.requires c.loo
 pub returns-in-Some : goal.returns-in-Some
 returns-in-Some c =
     let low = skip_low c.self.invariant c.requires c.loop-word.invariant c.loop-word-test.true _ refl in
-    rw (← c.self.view_is) (seek_found c.self.invariant c.requires (seek_skip c.self.invariant c.requires c.loop-word.invariant _ refl low) _ _ c.in-Some.ensures.side.1 c.in-Some.ensures.first _ c.third_corner.ensures)
+    rw (← c.self.view_is) (seek_found_side c.self.invariant c.requires (seek_skip c.self.invariant c.requires c.loop-word.invariant _ refl low) _ _ c.in-Some.ensures.side.1 c.in-Some.ensures.first _ c.third_corner.ensures)
